@@ -1,7 +1,8 @@
 -- What a row of the steps that are left says.
-use Rattle.std.proofs.Common.{◌≡◌, ◌∙◌, ℕ, ◌<◌, ◌≤◌, ◌+◌, refl, sym, ap, subst, arith, inl, inr, Bool, true, false, not, List, [], ◌∷◌, ◌++◌, length, take, get_or, cond, ℤ, Option, Some, None}
+use Rattle.std.proofs.Common.{◌≡◌, ◌∙◌, ℕ, ◌<◌, ◌≤◌, ◌+◌, refl, sym, ap, subst, arith, inl, inr, Bool, true, false, true≢false, not, ◌&&◌, List, [], ◌∷◌, ◌++◌, length, take, get_or, cond, ℤ, Option, Some, None}
 use Rattle.std.specs.Prelude.{Contains, filter, map, nat_eq, slice_get}
 use Rattle.std.specs.List.{AllZip}
+use Rattle.std.specs.Option.{is_some}
 use Rattle.std.proofs.lemmas.Bool.{eq-eqb, ne_eqb}
 use Rattle.std.proofs.lemmas.List.{append-nil, take_more}
 use Rattle.std.proofs.lemmas.List.Elements.{filter-append}
@@ -9,7 +10,7 @@ use Rattle.std.proofs.lemmas.Option.{slice_get_read}
 use Rattle.pf_core.specs.Numbered.{ListsSteps, NumbersInOrder}
 use Rattle.pf_base.proofs.ListLemmas.{bool_dec, Contains-head, Contains-tail, Contains-cases}
 use Rattle.pf_yen.specs.Internal.Adjacency.{row_of}
-use Rattle.pf_yen.specs.Internal.Filtered.{FilteredLists, allows, filtered_row, FilteredStep, StandsForItself, EndsInside}
+use Rattle.pf_yen.specs.Internal.Filtered.{FilteredLists, waits, allows, filtered_row, FilteredStep, StandsForItself, EndsInside}
 use Rattle.pf_yen.specs.Internal.Classes.{is_in}
 
 pub in_none : {X : Type 0} (x : X) → Contains [] x → ⊥
@@ -54,11 +55,21 @@ module _ {C : Type 0} (g : FilteredLists C) (a b : ℕ) (o : Option ℕ) (inside
   pub allows_onward : (only : ℕ) → o ≡ Some only → nat_eq b only ≡ allows g a b
   allows_onward only is = rw (read, is) refl
 
-  pub allows_elsewhere : o ≡ None → ¬ (a ≡ g.spur) → not (nat_eq a g.spur) ≡ allows g a b
-  allows_elsewhere is away = rw (read, is, ne_eqb a g.spur away) refl
-
-  pub allows_at_spur : o ≡ None → a ≡ g.spur → (hit : Bool) → hit ≡ is_in g.banned b → not hit ≡ allows g a b
-  allows_at_spur is here hit e = rw (read, is, eq-eqb a g.spur here) (ap not e)
+  -- from a number that leads on freely, by the onward number of the other as it is read
+  pub allows_freely : o ≡ None → (p : Option ℕ) → b < length g.onward → p ≡ get_or g.onward b p → (free left : Bool) → is_some p ≡ not free → left ≡ not (nat_eq a g.spur && is_in g.banned b) → free && left ≡ allows g a b
+  allows_freely is p far there free left e f = rw (read, is) (ap (λ (c : Bool). c && left) (by p e (slice_get_read g.onward (length g.onward) b p refl far there)) ∙ ap (λ (c : Bool). waits (slice_get g.onward b) && c) f)
+    where
+      by : (p : Option ℕ) → is_some p ≡ not free → slice_get g.onward b ≡ Some p → free ≡ waits (slice_get g.onward b)
+      by None n k = rw k (flip free n)
+        where
+          flip : (c : Bool) → false ≡ not c → c ≡ true
+          flip true h = refl
+          flip false h = absurd (true≢false (sym h))
+      by (Some x) n k = rw k (flip free n)
+        where
+          flip : (c : Bool) → true ≡ not c → c ≡ false
+          flip true h = absurd (true≢false h)
+          flip false h = refl
 
 module _ {C : Type 0} where
   -- the ends of a row stand for themselves

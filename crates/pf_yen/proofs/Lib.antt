@@ -3,6 +3,7 @@ pub mod ReducedLemmas
 pub mod LedLemmas
 pub mod NamedLemmas
 pub mod ResultLemmas
+pub mod MarkLemmas
 pub mod FilteredLemmas
 pub mod ClassLemmas
 pub mod FilteredWalks

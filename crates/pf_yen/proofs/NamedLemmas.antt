@@ -13,7 +13,8 @@ use Rattle.pf_yen.specs.Internal.WholeGraphs.{IsWhole}
 use Rattle.pf_yen.specs.Internal.Classes.{is_in, is_member, IsCleanNumbers}
 use Rattle.pf_yen.specs.Internal.Splits.{LeadsOn, IsFilteredTo, IsCheapestAlong, HasNoneAlong}
 use Rattle.pf_yen.specs.Internal.Remaining.{AreRemaining}
-use Rattle.pf_yen.specs.Internal.NamedWays.{waits, is_new, is_first, IsSpent, IsFirstStep, HasNoFirst, IsBestFirst, IsNextStep, IsPrefix, IsWaySoFar}
+use Rattle.pf_yen.specs.Internal.Filtered.{waits, is_new}
+use Rattle.pf_yen.specs.Internal.NamedWays.{is_first, IsSpent, IsFirstStep, HasNoFirst, IsBestFirst, IsNextStep, IsPrefix, IsWaySoFar}
 use Rattle.pf_yen.proofs.FilteredWalks.{not_twice, not_true}
 use Rattle.pf_yen.proofs.ClassLemmas.{both_true, and_left, and_right, same_is_true, goes_on, member_of}
 use Rattle.pf_yen.proofs.SplitLemmas.{ends_at_spur, spur_in, free_waits, cut_goes}

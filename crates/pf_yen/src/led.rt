@@ -113,7 +113,7 @@ fn led_way<C: Cost, A: Allocator + Copy>(
     requires wide { length filtered.now.onward.items ≡ length filtered.now.adjacency.now.rows }
     requires inside { filtered.now.spur < length filtered.now.adjacency.now.rows }
     ensures named { IfOk result (λ named. (q : List ℕ) → begin.now ≡ 0 ∷ q → IsPrefix C.value filtered.now.adjacency.now filtered.now.onward.items filtered.now.spur q filtered.now.spent
-        → IsNamed C.value filtered.now.adjacency.now q filtered.now.banned.items named) }
+        → IsNamed C.value filtered.now.adjacency.now q filtered.now.banned named) }
     ensures refused { IfErr result (λ e. e ≡ PathError.OutOfMemory) }
 {
     let Some(reduced) = filtered.adjacency.reduced() else {
@@ -149,7 +149,7 @@ pub fn guided_way<C: Cost, A: Allocator + Copy>(
     requires begins { take (spur + 1) path.now ≡ 0 ∷ take spur (drop 1 path.now) }
     requires inside { spur < length path.now }
     requires prefix { IsPrefix C.value filtered.now.adjacency.now filtered.now.onward.items filtered.now.spur (take spur (drop 1 path.now)) filtered.now.spent }
-    ensures named { IfOk result (λ named. IsNamed C.value filtered.now.adjacency.now (take spur (drop 1 path.now)) filtered.now.banned.items named) }
+    ensures named { IfOk result (λ named. IsNamed C.value filtered.now.adjacency.now (take spur (drop 1 path.now)) filtered.now.banned named) }
     ensures refused { IfErr result (λ e. e ≡ PathError.OutOfMemory) }
 {
     match named_way(alloc, filtered, path, spur)? {

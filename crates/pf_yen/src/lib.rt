@@ -3,6 +3,7 @@
 
 mod adjacency;
 mod backward;
+mod banned;
 mod candidate;
 mod candidates;
 mod classes;

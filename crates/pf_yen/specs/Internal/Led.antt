@@ -8,7 +8,7 @@ use Rattle.pf_yen.specs.Internal.Reduced.{steps_of, with_rows}
 
 -- the graph that is searched at reduced costs, with what is left of it
 abbrev pub graph_led_by : {C A : Type 0} → LedGraph C A → FilteredLists C
-graph_led_by led = record { adjacency = with_rows led.filtered.now.adjacency.now (steps_of led.rows.now); onward = led.filtered.now.onward.items; spur = led.filtered.now.spur; banned = led.filtered.now.banned.items }
+graph_led_by led = record { adjacency = with_rows led.filtered.now.adjacency.now (steps_of led.rows.now); onward = led.filtered.now.onward.items; spur = led.filtered.now.spur; banned = led.filtered.now.banned }
 
 -- what is found is nothing, or this path, where this is what it costs
 abbrev pub IsWayAt : {C A : Type 0} → List ℕ → Option C → Named C A → Type 0

@@ -37,11 +37,11 @@ returns-in-Ok-Some-clause-named g c =
     let b = rw c.in-Ok-Some.field-0-is at (c.in-Ok-Some.ensures.best here (refl, w.inside, c.requires.wide ∙ sym l.reduced.wide, sym l.reduced.wide) (filtered_from_zero value here w)) in
     let some : s.spur < length rows = subst (λ (n : ℕ). s.spur < n) (sym l.reduced.wide) c.requires.inside in
     ok_so c.way_on.result _ _ (λ named h q is pre.
-    named_at value k q s.banned.items _ c.total_behind-total.result named (subst (λ (v : List ℕ). IsWayAt (v ++ drop 1 c.in-Ok-Some.behind.items) c.total_behind-total.result named) is (subst (λ (v : List ℕ). IsWayAt (c.args.begin.now ++ drop 1 v) c.total_behind-total.result named) c.deref.ensures.value h))
+    named_at value k q s.banned _ c.total_behind-total.result named (subst (λ (v : List ℕ). IsWayAt (v ++ drop 1 c.in-Ok-Some.behind.items) c.total_behind-total.result named) is (subst (λ (v : List ℕ). IsWayAt (c.args.begin.now ++ drop 1 v) c.total_behind-total.result named) c.deref.ensures.value h))
     (λ cost e.
     let t = rw e at c.total_behind-total.ensures in
     let at = rw t.3 at c.cost_at-rest.ensures in
-    best_along value fits k c.requires.whole costs rows l s.onward.items s.spur s.banned.items q c.requires.inside s.spent pre _ _ some _ _ b cost t.0 t.1 t.2 at t.4)) c.way_on.ensures.way
+    best_along value fits k c.requires.whole costs rows l s.onward.items s.spur s.banned q c.requires.inside s.spent pre _ _ some _ _ b cost t.0 t.1 t.2 at t.4)) c.way_on.ensures.way
 
 pub returns-in-Ok-None-clause-named : goal.returns-in-Ok-None-clause-named
 returns-in-Ok-None-clause-named g c = λ q is pre.
@@ -56,4 +56,4 @@ returns-in-Ok-None-clause-named g c = λ q is pre.
     let here : FilteredLists g.row.C.Denot = graph_led_by (record { filtered = c.args.filtered; rows = c.in-Some.reduced.rows }) in
     let none = rw c.in-Ok-None.field-0-is at (c.in-Ok-None.ensures.best here (refl, w.inside, c.requires.wide ∙ sym l.reduced.wide, sym l.reduced.wide) (filtered_from_zero value here w)) in
     let some : s.spur < length rows = subst (λ (n : ℕ). s.spur < n) (sym l.reduced.wide) c.requires.inside in
-    none_along value fits k c.requires.whole costs rows l s.onward.items s.spur s.banned.items q c.requires.inside s.spent pre _ some none
+    none_along value fits k c.requires.whole costs rows l s.onward.items s.spur s.banned q c.requires.inside s.spent pre _ some none

@@ -23,8 +23,8 @@ steps-preserved g c =
     let n = rw c.in-Some.is at c.step_on.ensures in
     record {
       inside = c.requires.whole.inside c.steps.number c.in-Some.step.0 n.price n.edge;
-      way = λ q total w. (subst (λ (v : List ℕ). IsWaySoFar value k s.onward.items s.spur q s.banned.items c.args.costs.now total v c.in-Some.step.0 c.in-Some.step.1) (sym c.in_ok-push-2.ensures.items)
-          (way_on value k c.requires.whole c.args.costs.now s.onward.items s.spur q s.banned.items total c.steps.path.items c.steps.number c.in-Some.step.0 c.steps.here c.in-Some.step.1 n (c.steps.invariant.way q total w)));
+      way = λ q total w. (subst (λ (v : List ℕ). IsWaySoFar value k s.onward.items s.spur q s.banned c.args.costs.now total v c.in-Some.step.0 c.in-Some.step.1) (sym c.in_ok-push-2.ensures.items)
+          (way_on value k c.requires.whole c.args.costs.now s.onward.items s.spur q s.banned total c.steps.path.items c.steps.number c.in-Some.step.0 c.steps.here c.in-Some.step.1 n (c.steps.invariant.way q total w)));
     }
 
 pub returns-clause-goal : goal.returns-clause-goal

@@ -1,5 +1,5 @@
-use Rattle.std.proofs.Common.{◌≡◌, ◌∙◌, ℕ, List, length, refl, ap, subst, sym}
-use Rattle.std.specs.Prelude.{OnOk, Vec, filter}
+use Rattle.std.proofs.Common.{◌≡◌, ◌<◌, ◌∙◌, ℕ, List, length, refl, ap, subst, sym}
+use Rattle.std.specs.Prelude.{Contains, OnOk, Vec, filter}
 use Rattle.pf_base.proofs.Outcomes.{on_ok}
 use Rattle.pf_core.specs.Numbered.{ListsSteps}
 use Rattle.pf_yen.specs.Internal.Adjacency.{row_of}
@@ -9,6 +9,18 @@ use Rattle.pf_yen.specs.Internal.Reduced.{steps_of}
 use Rattle.pf_yen.proofs.FilteredLemmas.{row_inside, lists_steps, row_stands, row_in_order, none_between}
 use Rattle.pf_yen.proofs.ReducedLemmas.{held_led}
 use Rattle.pf_yen.proofs.led.LedGraphNumberedGraph.expand.Goals as goal
+
+pub list_allowed-requires : goal.list_allowed-requires
+list_allowed-requires g c =
+    let r = c.requires.graph in
+    let s = c.args.self.now in
+    let here : FilteredLists g.row.C.Denot = graph_led_by s in
+    let row : c.deref.result.now ≡ row_of here.adjacency c.args.node = c.deref.ensures.value ∙ ap (λ (v : Vec (ℕ × g.row.C.Denot) g.row.A.Denot). v.items) (sym c.index-self-node.is) ∙ held_led s.rows.now c.args.node c.index-self-node.result c.requires.inside c.index-self-node.is in
+    record {
+      inside = subst (λ (n : ℕ). c.args.node < n) (sym r.1.2) c.requires.inside;
+      ends = λ b d h. subst (λ (n : ℕ). b < n) (sym r.1.2) ((rw r.1.0 at r.1.1) c.args.node b d (subst (λ (v : List (ℕ × g.row.C.Denot)). Contains v (b, d)) row h));
+      empty = c.reset.ensures;
+    }
 
 pub returns-clause-listed : goal.returns-clause-listed
 returns-clause-listed g c =
