@@ -7,7 +7,6 @@ ghost use Rattle.std.proofs.Common.{◌∙◌, sym};
 ghost use Rattle.pf_yen.specs.Internal.Adjacency.{is_goal};
 ghost use Rattle.pf_yen.specs.Internal.Filtered.{FilteredLists, FilteredStep, StandsForItself, EndsInside, filtered_row};
 ghost use Rattle.pf_yen.specs.Internal.Led.{graph_led_by, IsWayAt};
-ghost use Rattle.pf_yen.specs.Internal.Reduced.{steps_of};
 ghost use Rattle.pf_yen.specs.Internal.NamedWays.{IsNamed, IsPrefix};
 ghost use Rattle.pf_yen.specs.Internal.Splits.{IsFilteredTo};
 ghost use Rattle.pf_yen.specs.Internal.WholeGraphs.{IsWhole};
@@ -15,6 +14,7 @@ ghost use Rattle.pf_yen.specs.Internal.WholeGraphs.{IsWhole};
 use crate::filtered::FilteredGraph;
 use crate::named::{Named, named_way};
 use crate::remaining::cost_at;
+use crate::rows::Rows;
 use pf_base::{Cost, PathError, Tally};
 use pf_core::dijkstra::cheapest_path;
 use pf_core::numbered::{GoalGraph, NumberedGraph};
@@ -25,7 +25,7 @@ use std::alloc::Allocator;
 #[derive(Drop)]
 struct LedGraph<'f, 'k, C: Cost, A: Allocator> {
     filtered: &'f FilteredGraph<'k, C, A>,
-    rows: &'f [Vec<(usize, C), A>],
+    rows: &'f Rows<C, A>,
 }
 
 impl<'f, 'k, C: Cost, A: Allocator> NumberedGraph<C> for LedGraph<'f, 'k, C, A> {
@@ -39,15 +39,15 @@ impl<'f, 'k, C: Cost, A: Allocator> NumberedGraph<C> for LedGraph<'f, 'k, C, A> 
 
     ghost passes = { λ g. is_goal g.adjacency };
 
-    ghost node_count = { λ s. length (steps_of s.rows.now) };
+    ghost node_count = { λ s. length s.rows.now };
 
-    ghost stands = { λ s. StandsForItself (length (steps_of s.rows.now)) };
+    ghost stands = { λ s. StandsForItself (length s.rows.now) };
 
     ghost explores = { λ s g. (g ≡ graph_led_by s) × EndsInside g.adjacency
-        × (length s.filtered.now.onward.items ≡ length (steps_of s.rows.now))
-        × (length s.filtered.now.adjacency.now.rows ≡ length (steps_of s.rows.now)) };
+        × (length s.filtered.now.onward.items ≡ length s.rows.now)
+        × (length s.filtered.now.adjacency.now.rows ≡ length s.rows.now) };
 
-    ghost can_forget = { λ s k. k ≡ length (steps_of s.rows.now) };
+    ghost can_forget = { λ s k. k ≡ length s.rows.now };
 
     fn node_count(&self) -> usize {
         self.rows.len()
@@ -55,7 +55,7 @@ impl<'f, 'k, C: Cost, A: Allocator> NumberedGraph<C> for LedGraph<'f, 'k, C, A> 
 
     fn expand<R: Row<C>>(&mut self, node: usize, row: &mut R) -> Result<(), PathError> {
         row.reset();
-        self.filtered.list_allowed(node, &self.rows[node], row)
+        self.filtered.list_allowed(node, self.rows.row(node), row)
     }
 
     fn forget(&mut self, _first: usize) {}

@@ -16,4 +16,5 @@ mod led;
 mod named;
 mod reduced;
 mod remaining;
+mod rows;
 mod standing;

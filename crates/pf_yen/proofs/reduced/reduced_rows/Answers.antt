@@ -2,7 +2,7 @@ use Rattle.std.proofs.Common.{◌≡◌, ◌<◌, ◌∙◌, Some, arith, ap, le
 use Rattle.std.specs.Prelude.{pos, slice_get}
 use Rattle.pf_base.proofs.ListLemmas.{at_place}
 use Rattle.pf_yen.specs.Internal.Adjacency.{is_goal}
-use Rattle.pf_yen.proofs.ReducedLemmas.{row_more, held_more}
+use Rattle.pf_yen.proofs.ReducedLemmas.{row_more}
 use Rattle.pf_yen.proofs.reduced.reduced_rows.Goals.{else-is_goal-via-then-is_goal+else-not-is_nothing, else-is_goal-via-else-is_goal}
 use Rattle.pf_yen.proofs.reduced.reduced_rows.Goals as goal
 
@@ -19,9 +19,8 @@ numbers-preserved g c =
           (z.0, at_place costs n w.index-costs-number.result w.index-costs-number.result inside (sym w.index-costs-number.is) ∙ ap Some z.1, z.2)
       | else-is_goal-via-else-is_goal w ↦ absurd (true≢false (sym t ∙ sym c.is_goal.ensures ∙ w.if-is_goal.false))
     ] in
-    let reduced = rw c.row-row.ensures at (rw c.in-Some.is at c.in_ok-reduced.ensures.reduced) in
-    rw (held_more c.numbers.rows.items c.in-Some.reduced c.push.new.self.items c.in_ok-push.ensures.items)
-    (row_more value costs k n _ c.numbers.invariant inside c.index-costs-number-in-numbers.result c.index-costs-number-in-numbers.is c.in-Some.reduced.items reduced free)
+    let reduced = rw c.row.ensures at (c.in_ok-reduce_row.ensures.reduced c.if-not-branch.false) in
+    rw (c.in_ok-add.ensures.added, c.deref.ensures.value) (row_more value costs k n _ c.numbers.invariant inside c.index-costs-number-in-numbers.result c.index-costs-number-in-numbers.is c.reduce_row.new.reduced.items reduced free)
 
 pub returns-clause-reduced : goal.returns-clause-reduced
 returns-clause-reduced g c =

@@ -2,8 +2,8 @@ use Rattle.std.proofs.Common.{◌∙◌, ◌+◌, ap, take, ℕ}
 use Rattle.std.specs.Prelude.{Vec}
 use Rattle.pf_yen.specs.Internal.Reduced.{IsReducedRow}
 use Rattle.pf_yen.proofs.ReducedLemmas.{left_out, put_in}
-use Rattle.pf_yen.proofs.reduced.reduced_row.Goals.{in-Some+in-Some-reduced_cost+in_ok-push, in_default}
-use Rattle.pf_yen.proofs.reduced.reduced_row.Goals as goal
+use Rattle.pf_yen.proofs.reduced.reduce_row.Goals.{in-Some+in-Some-reduced_cost+in_ok-push, in_default}
+use Rattle.pf_yen.proofs.reduced.reduce_row.Goals as goal
 
 pub steps-preserved : goal.steps-preserved
 steps-preserved g c =
