@@ -56,20 +56,28 @@ module _ {C : Type 0} (g : FilteredLists C) (a b : ℕ) (o : Option ℕ) (inside
   allows_onward only is = rw (read, is) refl
 
   -- from a number that leads on freely, by the onward number of the other as it is read
-  pub allows_freely : o ≡ None → (p : Option ℕ) → b < length g.onward → p ≡ get_or g.onward b p → (free left : Bool) → is_some p ≡ not free → left ≡ not (nat_eq a g.spur && is_in g.banned b) → free && left ≡ allows g a b
-  allows_freely is p far there free left e f = rw (read, is) (ap (λ (c : Bool). c && left) (by p e (slice_get_read g.onward (length g.onward) b p refl far there)) ∙ ap (λ (c : Bool). waits (slice_get g.onward b) && c) f)
-    where
-      by : (p : Option ℕ) → is_some p ≡ not free → slice_get g.onward b ≡ Some p → free ≡ waits (slice_get g.onward b)
-      by None n k = rw k (flip free n)
-        where
-          flip : (c : Bool) → false ≡ not c → c ≡ true
-          flip true h = refl
-          flip false h = absurd (true≢false (sym h))
-      by (Some x) n k = rw k (flip free n)
-        where
-          flip : (c : Bool) → true ≡ not c → c ≡ false
-          flip true h = absurd (true≢false h)
-          flip false h = refl
+  module _ (is : o ≡ None) (p : Option ℕ) (far : b < length g.onward) (there : p ≡ get_or g.onward b p) (free : Bool) (known : is_some p ≡ not free) where
+    allows_freely : (left : Bool) → left ≡ not (nat_eq a g.spur && is_in g.banned b) → free && left ≡ allows g a b
+    allows_freely left f = rw (read, is) (ap (λ (c : Bool). c && left) (by p known (slice_get_read g.onward (length g.onward) b p refl far there)) ∙ ap (λ (c : Bool). waits (slice_get g.onward b) && c) f)
+      where
+        flip : (c d : Bool) → c ≡ not d → d ≡ not c
+        flip true true h = absurd (true≢false h)
+        flip true false h = refl
+        flip false true h = refl
+        flip false false h = absurd (true≢false (sym h))
+
+        by : (p : Option ℕ) → is_some p ≡ not free → slice_get g.onward b ≡ Some p → free ≡ waits (slice_get g.onward b)
+        by None n k = rw k (flip false free n)
+        by (Some x) n k = rw k (flip true free n)
+
+    pub allows_closed : free ≡ false → free ≡ allows g a b
+    allows_closed f = f ∙ sym (ap (λ (c : Bool). c && not (nat_eq a g.spur && is_in g.banned b)) f) ∙ allows_freely (not (nat_eq a g.spur && is_in g.banned b)) refl
+
+    pub allows_away : free ≡ true → ¬ (a ≡ g.spur) → not (nat_eq a g.spur) ≡ allows g a b
+    allows_away t away = sym (ap (λ (c : Bool). c && not (nat_eq a g.spur)) t) ∙ allows_freely (not (nat_eq a g.spur)) (rw (ne_eqb a g.spur away) refl)
+
+    pub allows_at_spur : free ≡ true → a ≡ g.spur → (hit : Bool) → hit ≡ is_in g.banned b → not hit ≡ allows g a b
+    allows_at_spur t here hit e = sym (ap (λ (c : Bool). c && not hit) t) ∙ allows_freely (not hit) (rw (eq-eqb a g.spur here) (ap not e))
 
 module _ {C : Type 0} where
   -- the ends of a row stand for themselves

@@ -1,5 +1,5 @@
 -- What was learned of a graph over numbers.
-use Rattle.std.specs.Prelude.{◌≡◌, ℕ, ℤ, Bool, false, List, [], Contains, map, slice_index_or, refl}
+use Rattle.std.specs.Prelude.{◌≡◌, ℕ, ℤ, Bool, false, List, [], Contains, slice_index_or, refl}
 use Rattle.std.specs.Coded.{Coded, code_by, coded×, coded_bool, coded_ℕ, coded_list}
 
 -- the steps from each number, each as the number of its end and its cost, and which numbers are goals

@@ -1,5 +1,5 @@
 -- Numbers that are marked.
-use Rattle.std.specs.Prelude.{◌≡◌, ℕ, Bool, true, List, Some, slice_get}
+use Rattle.std.specs.Prelude.{◌≡◌, ℕ, Bool, List, Some, slice_get}
 use Rattle.pf_yen.specs.Internal.Classes.{is_in}
 
 -- of the numbers that have a mark, it tells whether they are listed

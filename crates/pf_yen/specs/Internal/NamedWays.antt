@@ -1,5 +1,5 @@
 -- The way behind a prefix that remaining costs name.
-use Rattle.std.specs.Prelude.{◌≡◌, ◌⊎◌, ◌≤ℤ◌, ◌+ℤ◌, ◌<◌, ◌++◌, ℕ, ℤ, Bool, true, false, not, ◌&&◌, List, ◌∷◌, length, Contains, Option, Some, None, slice_get, nat_eq, MatchOption, ⊤}
+use Rattle.std.specs.Prelude.{◌≡◌, ◌⊎◌, ◌≤ℤ◌, ◌+ℤ◌, ◌<◌, ◌++◌, ℕ, ℤ, Bool, true, false, not, ◌&&◌, List, ◌∷◌, length, Contains, Option, Some, slice_get, nat_eq, MatchOption, ⊤}
 use Rattle.pf_base.specs.Walks.{HasNode, NoRepeats, end_of}
 use Rattle.pf_core.specs.Steps.{GoesAlong}
 use Rattle.pf_yen.specs.Internal.Adjacency.{AdjacencyLists, is_goal, AdjacencyStep}

@@ -1,5 +1,5 @@
-use Rattle.std.proofs.Common.{◌≡◌, ◌<◌, ◌∙◌, ℕ, List, length, refl, ap, subst, sym}
-use Rattle.std.specs.Prelude.{Contains, OnOk, Vec, filter}
+use Rattle.std.proofs.Common.{◌<◌, ℕ, List, length, refl, subst, sym}
+use Rattle.std.specs.Prelude.{Contains, OnOk, filter}
 use Rattle.pf_base.proofs.Outcomes.{on_ok}
 use Rattle.pf_core.specs.Numbered.{ListsSteps}
 use Rattle.pf_yen.specs.Internal.Filtered.{FilteredLists, FilteredStep, StandsForItself, allows, filtered_row}

@@ -1,4 +1,4 @@
-use Rattle.std.proofs.Common.{◌≡◌, ◌≤◌, ◌<◌, ◌-◌, ◌∙◌, ap, sym, take, drop, [], length, get_or, arith, List, ℕ}
+use Rattle.std.proofs.Common.{◌≡◌, ◌<◌, ◌∙◌, ap, sym, [], length, get_or, arith, List, ℕ}
 use Rattle.std.proofs.lemmas.Grind.{get_or_default_zero}
 use Rattle.pf_yen.specs.Internal.Rows.{rows_from, row_begin}
 use Rattle.pf_yen.proofs.RowLemmas.{row_count, bounds, row_here}
