@@ -1,6 +1,6 @@
 //! A search for a cheapest path of a class that reduced costs lead: by them, each walk from the spur to
 //! a goal costs less by what remains there, so that the same ones are cheapest. None of them comes back
-//! to the numbers before the spur, from which the only way leads to the spur again.
+//! to the numbers before the spur, to which no step is left.
 
 ghost use Rattle.std.specs.Prelude.{◌≡◌, ◌<◌, ◌≤◌, ◌+◌, ◌+ℤ◌, ◌++◌, ◌∷◌, ℕ, List, Some, map, length, take, drop, IfOk, IfErr, IfSome};
 ghost use Rattle.std.proofs.Common.{◌∙◌, sym};

@@ -1,4 +1,4 @@
-use Rattle.std.proofs.Common.{◌∙◌, refl, sym, ap, subst, ℕ, List}
+use Rattle.std.proofs.Common.{◌∙◌, refl, sym, ap, subst, ℕ, List, true≢false}
 use Rattle.std.specs.Prelude.{◌≤ℤ◌}
 use Rattle.std.specs.Ordering.{is_some_and, is_lt}
 use Rattle.std.proofs.lemmas.Result.{IfOk-from_err}
@@ -54,3 +54,6 @@ returns-in_err-push-2 g c = record {
   goal = IfOk-from_err _ _ c.from_residual-in_err-push-2.ensures.0;
   refused = refused_as _ c.from_residual-in_err-push-2.result OutOfMemory c.from_residual-in_err-push-2.ensures.1 refl;
 }
+
+pub returns-in_default : goal.returns-in_default
+returns-in_default g c = record { goal = λ t. absurd (true≢false (sym t)); refused = tt }

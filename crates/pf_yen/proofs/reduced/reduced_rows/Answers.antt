@@ -4,6 +4,8 @@ use Rattle.pf_base.proofs.ListLemmas.{at_place}
 use Rattle.pf_yen.specs.Internal.Adjacency.{is_goal}
 use Rattle.pf_yen.proofs.ReducedLemmas.{row_more}
 use Rattle.pf_yen.proofs.reduced.reduced_rows.Goals.{else-is_goal-via-then-is_goal+else-not-is_nothing, else-is_goal-via-else-is_goal}
+use Rattle.std.proofs.lemmas.Result.{IfOk-from_err}
+use Rattle.pf_base.proofs.Outcomes.{refused_as}
 use Rattle.pf_yen.proofs.reduced.reduced_rows.Goals as goal
 
 pub numbers-preserved : goal.numbers-preserved
@@ -31,3 +33,21 @@ returns-clause-reduced g c =
       each = λ a here h. i.each a here (omega (arith, h, end));
       free = λ a h. i.free a (omega (arith, h, end));
     }
+
+pub returns-then-not-is_nothing : goal.returns-then-not-is_nothing
+returns-then-not-is_nothing g c = record { reduced = tt; refused = tt }
+
+pub returns-in_err-reduce_row : goal.returns-in_err-reduce_row
+returns-in_err-reduce_row g c = record {
+  reduced = IfOk-from_err _ _ c.from_residual.ensures.0;
+  refused = refused_as _ c.from_residual.result c.in_err-reduce_row.field-0.0 c.from_residual.ensures.1 c.in_err-reduce_row.ensures.refused;
+}
+
+pub returns-then-not-branch : goal.returns-then-not-branch
+returns-then-not-branch g c = record { reduced = tt; refused = tt }
+
+pub returns-in_err-add : goal.returns-in_err-add
+returns-in_err-add g c = record {
+  reduced = IfOk-from_err _ _ c.from_residual-in_err-add.ensures.0;
+  refused = refused_as _ c.from_residual-in_err-add.result c.in_err-add.field-0.0 c.from_residual-in_err-add.ensures.1 c.in_err-add.ensures.refused;
+}
