@@ -20,10 +20,10 @@ use Rattle.pf_yen.proofs.ClassLemmas.{both_true, and_left, and_right, same_is_tr
 use Rattle.pf_yen.proofs.SplitLemmas.{ends_at_spur, spur_in, free_waits, cut_goes}
 use Rattle.pf_yen.proofs.RemainingLemmas.{one_cost, remains}
 
-none_some : {X : Type 0} (x : X) → ¬ (None ≡ Some x)
+pub none_some : {X : Type 0} (x : X) → ¬ (None ≡ Some x)
 none_some x e = cc
 
-some_same : {X : Type 0} (x y : X) → Some x ≡ Some y → x ≡ y
+pub some_same : {X : Type 0} (x y : X) → Some x ≡ Some y → x ≡ y
 some_same x y e = cc
 
 false_right : (a b : Bool) → b ≡ false → a && b ≡ false
