@@ -56,3 +56,6 @@ returns-in-Ok-None-clause-named g c = λ q is pre.
     let none = rw c.in-Ok-None.field-0-is at (c.in-Ok-None.ensures.best here (refl, w.inside, c.requires.wide ∙ sym l.reduced.wide, sym l.reduced.wide) (filtered_from_zero value here w)) in
     let some : s.spur < length rows = subst (λ (n : ℕ). s.spur < n) (sym l.reduced.wide) c.requires.inside in
     none_along value fits k c.requires.whole costs rows l s.onward.items s.spur s.banned q c.requires.inside s.spent pre _ some none
+
+pub returns-in-Err-CostOverflow : goal.returns-in-Err-CostOverflow
+returns-in-Err-CostOverflow g c = record { named = λ q is pre. tt; refused = tt }
