@@ -1,6 +1,6 @@
 //! The numbers to which a path may not go on from its spur.
 
-ghost use Rattle.std.specs.Prelude.{◌≡◌, ◌++◌, [], ◌∷◌, length, OnOk, IfOk, IfErr};
+ghost use Rattle.std.specs.Prelude.{◌≡◌, ◌++◌, [], ◌∷◌, OnOk, IfOk, IfErr};
 ghost use Rattle.pf_yen.specs.Internal.Classes.{is_in};
 ghost use Rattle.pf_yen.specs.Internal.Marks.{AreMarked};
 

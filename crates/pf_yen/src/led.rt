@@ -8,7 +8,6 @@ ghost use Rattle.pf_yen.specs.Internal.Adjacency.{is_goal};
 ghost use Rattle.pf_yen.specs.Internal.Filtered.{FilteredLists, FilteredStep, StandsForItself, EndsInside, filtered_row};
 ghost use Rattle.pf_yen.specs.Internal.Led.{graph_led_by, IsWayAt};
 ghost use Rattle.pf_yen.specs.Internal.NamedWays.{IsNamed, IsPrefix};
-ghost use Rattle.pf_yen.specs.Internal.Splits.{IsFilteredTo};
 ghost use Rattle.pf_yen.specs.Internal.WholeGraphs.{IsWhole};
 
 use crate::filtered::FilteredGraph;
