@@ -15,13 +15,13 @@ use Rattle.pf_base.proofs.ListLemmas.{Contains-head, Contains-tail, Contains-cas
 use Rattle.pf_yen.specs.declared.candidate.Candidate.{Candidate}
 use Rattle.pf_yen.specs.Internal.Adjacency.{AdjacencyLists, AdjacencyStep, is_goal}
 use Rattle.pf_yen.specs.Internal.WholeGraphs.{IsWhole}
-use Rattle.pf_yen.specs.Internal.Filtered.{FilteredLists, FilteredStep, StandsForItself, allows, allows_by}
+use Rattle.pf_yen.specs.Internal.Filtered.{FilteredLists, FilteredStep, StandsForItself, waits, allows, allows_by}
 use Rattle.pf_yen.specs.Internal.Classes.{is_in, Plan, in_class, is_member, IsCheapestOfClass, IsPartition, plan_of}
 use Rattle.pf_yen.specs.Internal.Splits.{IsCheapestAlong, HasNoneAlong, IsSplit}
 use Rattle.pf_yen.specs.Internal.Candidates.{waiting_plans, chosen_plan, as_list, last_given, NoneBelow, IsFirst}
 use Rattle.pf_yen.specs.Internal.PlanChanges.{first_cmp, GoesOn}
 use Rattle.pf_yen.proofs.FilteredLemmas.{in_none}
-use Rattle.pf_yen.proofs.ClassLemmas.{any_goes_on, split_partition, first_partition, no_partition}
+use Rattle.pf_yen.proofs.ClassLemmas.{both_true, any_goes_on, split_partition, first_partition, no_partition}
 use Rattle.pf_yen.proofs.FilteredWalks.{is_known, is_left, goes_listed, open_walk}
 use Rattle.pf_yen.proofs.SplitLemmas.{nothing}
 
@@ -132,16 +132,23 @@ module _ {C : Type 0} (value : C → ℤ) (g : FilteredLists C) (n : ℕ) (bare 
       and_none true = refl
       and_none false = refl
 
-      open_here : not (nat_eq a g.spur && is_in g.banned b) ≡ true
-      open_here = subst (λ (v : List ℕ). not (nat_eq a g.spur && is_in v b) ≡ true) (sym free) (and_none (nat_eq a g.spur))
+      waits_there : (o : Option (Option ℕ)) → ((y : ℕ) → ¬ (o ≡ Some (Some y))) → waits o ≡ true
+      waits_there None f = refl
+      waits_there (Some None) f = refl
+      waits_there (Some (Some y)) f = absurd (f y refl)
 
-      at : (o : Option (Option ℕ)) → ((y : ℕ) → ¬ (o ≡ Some (Some y))) → allows_by o (not (nat_eq a g.spur && is_in g.banned b)) b ≡ true
+      open_here : waits (slice_get g.onward b) && not (nat_eq a g.spur && is_in g.banned b) ≡ true
+      open_here = both_true (waits (slice_get g.onward b)) (not (nat_eq a g.spur && is_in g.banned b))
+          (waits_there (slice_get g.onward b) (λ y e. none_there n b y (subst (λ (v : List (Option ℕ)). slice_get v b ≡ Some (Some y)) bare e)))
+          (subst (λ (v : List ℕ). not (nat_eq a g.spur && is_in v b) ≡ true) (sym free) (and_none (nat_eq a g.spur)))
+
+      at : (o : Option (Option ℕ)) → ((y : ℕ) → ¬ (o ≡ Some (Some y))) → allows_by o (waits (slice_get g.onward b) && not (nat_eq a g.spur && is_in g.banned b)) b ≡ true
       at None f = open_here
       at (Some None) f = open_here
       at (Some (Some y)) f = absurd (f y refl)
 
   filtered_all : (w : List ℕ) (a : ℕ) (u : ℤ) → GoesAlong (AdjacencyStep value g.adjacency) a w u → GoesAlong (FilteredStep value g) a w u
-  filtered_all w a u h = open_walk value g w a u (λ x y m. all_allowed x y) h
+  filtered_all w a u h = open_walk value g w a u (λ x y m n. all_allowed x y) h
 
   pub all_overflows : (fits : ℤ → Type 0) (m : ℕ) → NumberedOverflows (FilteredStep value g) (is_goal g.adjacency) (StandsForItself m 0) (StandsForItself m) fits → NumberedOverflows (AdjacencyStep value g.adjacency) (is_goal g.adjacency) (StandsForItself m 0) (StandsForItself m) fits
   all_overflows fits m d = let p = d.path in record {

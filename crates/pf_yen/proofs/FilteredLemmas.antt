@@ -1,7 +1,8 @@
 -- What a row of the steps that are left says.
-use Rattle.std.proofs.Common.{◌≡◌, ◌∙◌, ℕ, ◌<◌, ◌≤◌, ◌+◌, refl, sym, ap, subst, arith, inl, inr, Bool, true, false, not, List, [], ◌∷◌, ◌++◌, length, take, get_or, cond, ℤ, Option, Some, None}
+use Rattle.std.proofs.Common.{◌≡◌, ◌∙◌, ℕ, ◌<◌, ◌≤◌, ◌+◌, refl, sym, ap, subst, arith, inl, inr, Bool, true, false, true≢false, not, ◌&&◌, List, [], ◌∷◌, ◌++◌, length, take, get_or, cond, ℤ, Option, Some, None}
 use Rattle.std.specs.Prelude.{Contains, filter, map, nat_eq, slice_get}
 use Rattle.std.specs.List.{AllZip}
+use Rattle.std.specs.Option.{is_some}
 use Rattle.std.proofs.lemmas.Bool.{eq-eqb, ne_eqb}
 use Rattle.std.proofs.lemmas.List.{append-nil, take_more}
 use Rattle.std.proofs.lemmas.List.Elements.{filter-append}
@@ -9,7 +10,7 @@ use Rattle.std.proofs.lemmas.Option.{slice_get_read}
 use Rattle.pf_core.specs.Numbered.{ListsSteps, NumbersInOrder}
 use Rattle.pf_base.proofs.ListLemmas.{bool_dec, Contains-head, Contains-tail, Contains-cases}
 use Rattle.pf_yen.specs.Internal.Adjacency.{row_of}
-use Rattle.pf_yen.specs.Internal.Filtered.{FilteredLists, allows, filtered_row, FilteredStep, StandsForItself, EndsInside}
+use Rattle.pf_yen.specs.Internal.Filtered.{FilteredLists, waits, allows, filtered_row, FilteredStep, StandsForItself, EndsInside}
 use Rattle.pf_yen.specs.Internal.Classes.{is_in}
 
 pub in_none : {X : Type 0} (x : X) → Contains [] x → ⊥
@@ -54,11 +55,29 @@ module _ {C : Type 0} (g : FilteredLists C) (a b : ℕ) (o : Option ℕ) (inside
   pub allows_onward : (only : ℕ) → o ≡ Some only → nat_eq b only ≡ allows g a b
   allows_onward only is = rw (read, is) refl
 
-  pub allows_elsewhere : o ≡ None → ¬ (a ≡ g.spur) → not (nat_eq a g.spur) ≡ allows g a b
-  allows_elsewhere is away = rw (read, is, ne_eqb a g.spur away) refl
+  -- from a number that leads on freely, by the onward number of the other as it is read
+  module _ (is : o ≡ None) (p : Option ℕ) (far : b < length g.onward) (there : p ≡ get_or g.onward b p) (free : Bool) (known : is_some p ≡ not free) where
+    allows_freely : (left : Bool) → left ≡ not (nat_eq a g.spur && is_in g.banned b) → free && left ≡ allows g a b
+    allows_freely left f = rw (read, is) (ap (λ (c : Bool). c && left) (by p known (slice_get_read g.onward (length g.onward) b p refl far there)) ∙ ap (λ (c : Bool). waits (slice_get g.onward b) && c) f)
+      where
+        flip : (c d : Bool) → c ≡ not d → d ≡ not c
+        flip true true h = absurd (true≢false h)
+        flip true false h = refl
+        flip false true h = refl
+        flip false false h = absurd (true≢false (sym h))
 
-  pub allows_at_spur : o ≡ None → a ≡ g.spur → (hit : Bool) → hit ≡ is_in g.banned b → not hit ≡ allows g a b
-  allows_at_spur is here hit e = rw (read, is, eq-eqb a g.spur here) (ap not e)
+        by : (p : Option ℕ) → is_some p ≡ not free → slice_get g.onward b ≡ Some p → free ≡ waits (slice_get g.onward b)
+        by None n k = rw k (flip false free n)
+        by (Some x) n k = rw k (flip true free n)
+
+    pub allows_closed : free ≡ false → free ≡ allows g a b
+    allows_closed f = f ∙ sym (ap (λ (c : Bool). c && not (nat_eq a g.spur && is_in g.banned b)) f) ∙ allows_freely (not (nat_eq a g.spur && is_in g.banned b)) refl
+
+    pub allows_away : free ≡ true → ¬ (a ≡ g.spur) → not (nat_eq a g.spur) ≡ allows g a b
+    allows_away t away = sym (ap (λ (c : Bool). c && not (nat_eq a g.spur)) t) ∙ allows_freely (not (nat_eq a g.spur)) (rw (ne_eqb a g.spur away) refl)
+
+    pub allows_at_spur : free ≡ true → a ≡ g.spur → (hit : Bool) → hit ≡ is_in g.banned b → not hit ≡ allows g a b
+    allows_at_spur t here hit e = sym (ap (λ (c : Bool). c && not hit) t) ∙ allows_freely (not hit) (rw (eq-eqb a g.spur here) (ap not e))
 
 module _ {C : Type 0} where
   -- the ends of a row stand for themselves

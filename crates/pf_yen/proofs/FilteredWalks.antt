@@ -8,11 +8,11 @@ use Rattle.pf_core.specs.Steps.{GoesAlong, IsNonNegative, NoGoal, IsBestNumbered
 use Rattle.pf_base.proofs.ListLemmas.{bool_dec}
 use Rattle.pf_yen.specs.Internal.Adjacency.{is_goal, row_of, AdjacencyStep}
 use Rattle.pf_yen.specs.Internal.WholeGraphs.{IsWhole}
-use Rattle.pf_yen.specs.Internal.Filtered.{FilteredLists, allows, allows_by, FilteredStep, StandsForItself}
+use Rattle.pf_yen.specs.Internal.Filtered.{FilteredLists, waits, allows, allows_by, FilteredStep, StandsForItself}
 use Rattle.pf_yen.specs.Internal.Classes.{is_in, is_member, IsCleanNumbers}
 use Rattle.pf_yen.specs.Internal.Splits.{LeadsOn, IsFilteredTo}
 use Rattle.pf_yen.proofs.FilteredLemmas.{Contains-filter, filter-Contains}
-use Rattle.pf_yen.proofs.ClassLemmas.{both_true, same_is_true, any_goes_on, goes_on}
+use Rattle.pf_yen.proofs.ClassLemmas.{both_true, and_right, same_is_true, any_goes_on, goes_on}
 
 pub HasNode-behind : (q r : List ℕ) (x : ℕ) → HasNode nat_eq r x → HasNode nat_eq (q ++ r) x
 HasNode-behind [] r x h = h
@@ -60,17 +60,20 @@ module _ {C : Type 0} (value : C → ℤ) (g : FilteredLists C) where
   goes_again (b ∷ w) a t u h k = (k.0, k.1, is_left a k.0 b k.2 (is_allowed a h.0 b h.2), goes_again w b h.1 k.1 h.3 k.3, k.4)
 
   -- where nothing is left out, all walks are left
-  pub open_walk : (w : List ℕ) (b : ℕ) (u : ℤ) → ((x y : ℕ) → HasNode nat_eq (b ∷ w) x → allows g x y ≡ true) → GoesAlong (AdjacencyStep value g.adjacency) b w u → GoesAlong (FilteredStep value g) b w u
+  pub open_walk : (w : List ℕ) (b : ℕ) (u : ℤ) → ((x y : ℕ) → HasNode nat_eq (b ∷ w) x → HasNode nat_eq w y → allows g x y ≡ true) → GoesAlong (AdjacencyStep value g.adjacency) b w u → GoesAlong (FilteredStep value g) b w u
   open_walk [] b u h k = k
-  open_walk (x ∷ w) b u h k = (k.0, k.1, is_left b k.0 x k.2 (h b x (inl (same_is_true b))), open_walk w x k.1 (λ y z m. h y z (inr m)) k.3, k.4)
+  open_walk (x ∷ w) b u h k = (k.0, k.1, is_left b k.0 x k.2 (h b x (inl (same_is_true b)) (inl (same_is_true x))), open_walk w x k.1 (λ y z m n. h y z (inr m) (inr n)) k.3, k.4)
 
   -- from a number that leads on freely
-  free_step : (a b : ℕ) → ((y : ℕ) → ¬ (slice_get g.onward a ≡ Some (Some y))) → nat_eq a g.spur && is_in g.banned b ≡ false → allows g a b ≡ true
-  free_step a b none h = at (slice_get g.onward a) none
+  free_step : (a b : ℕ) → ((y : ℕ) → ¬ (slice_get g.onward a ≡ Some (Some y))) → waits (slice_get g.onward b) ≡ true → nat_eq a g.spur && is_in g.banned b ≡ false → allows g a b ≡ true
+  free_step a b none new h = at (slice_get g.onward a) none
     where
-      at : (o : Option (Option ℕ)) → ((y : ℕ) → ¬ (o ≡ Some (Some y))) → allows_by o (not (nat_eq a g.spur && is_in g.banned b)) b ≡ true
-      at None n = subst (λ (c : Bool). not c ≡ true) (sym h) refl
-      at (Some None) n = subst (λ (c : Bool). not c ≡ true) (sym h) refl
+      may : waits (slice_get g.onward b) && not (nat_eq a g.spur && is_in g.banned b) ≡ true
+      may = both_true (waits (slice_get g.onward b)) (not (nat_eq a g.spur && is_in g.banned b)) new (ap not h)
+
+      at : (o : Option (Option ℕ)) → ((y : ℕ) → ¬ (o ≡ Some (Some y))) → allows_by o (waits (slice_get g.onward b) && not (nat_eq a g.spur && is_in g.banned b)) b ≡ true
+      at None n = may
+      at (Some None) n = may
       at (Some (Some y)) n = absurd (n y refl)
 
   pub spur_of : (q : List ℕ) (a : ℕ) → LeadsOn g.adjacency g.onward g.spur a q → HasNode nat_eq (a ∷ q) g.spur
@@ -86,22 +89,22 @@ module _ {C : Type 0} (value : C → ℤ) (g : FilteredLists C) where
   and_false_right false b h = refl
 
   -- a walk that begins with the prefix is left
-  walk_on : (q r : List ℕ) (a : ℕ) (u : ℤ) → LeadsOn g.adjacency g.onward g.spur a q → is_member [] g.banned r ≡ true → ((x y : ℕ) → HasNode nat_eq r x → allows g x y ≡ true) → GoesAlong (AdjacencyStep value g.adjacency) a (q ++ r) u → GoesAlong (FilteredStep value g) a (q ++ r) u
-  walk_on [] [] a u l m left k = k
-  walk_on [] (b ∷ r) a u l m left k =
+  walk_on : (q r : List ℕ) (a : ℕ) (u : ℤ) → LeadsOn g.adjacency g.onward g.spur a q → is_member [] g.banned r ≡ true → ((y : ℕ) → HasNode nat_eq r y → waits (slice_get g.onward y) ≡ true) → ((x y : ℕ) → HasNode nat_eq r x → HasNode nat_eq r y → allows g x y ≡ true) → GoesAlong (AdjacencyStep value g.adjacency) a (q ++ r) u → GoesAlong (FilteredStep value g) a (q ++ r) u
+  walk_on [] [] a u l m new left k = k
+  walk_on [] (b ∷ r) a u l m new left k =
       let none : (y : ℕ) → ¬ (slice_get g.onward a ≡ Some (Some y)) = λ y e. some_differs y (sym l.1 ∙ e) in
-      (k.0, k.1, is_left a k.0 b k.2 (free_step a b none (and_false_right (nat_eq a g.spur) (is_in g.banned b) (not_true (is_in g.banned b) m))), open_walk r b k.1 left k.3, k.4)
+      (k.0, k.1, is_left a k.0 b k.2 (free_step a b none (new b (inl (same_is_true b))) (and_false_right (nat_eq a g.spur) (is_in g.banned b) (not_true (is_in g.banned b) m))), open_walk r b k.1 (λ x y i j. left x y i (inr j)) k.3, k.4)
     where
       some_differs : (y : ℕ) → ¬ (Some None ≡ Some (Some y))
       some_differs y e = cc
-  walk_on (b ∷ q) r a u l m left k = (k.0, k.1, is_left a k.0 b k.2 (rw l.0 (same_is_true b)), walk_on q r b k.1 l.2 m left k.3, k.4)
+  walk_on (b ∷ q) r a u l m new left k = (k.0, k.1, is_left a k.0 b k.2 (rw l.0 (same_is_true b)), walk_on q r b k.1 l.2 m new left k.3, k.4)
 
   -- a walk that is left and ends at a goal begins with the prefix
   pub walk_back : (q w : List ℕ) (a : ℕ) (u : ℤ) → LeadsOn g.adjacency g.onward g.spur a q → GoesAlong (FilteredStep value g) a w u → is_goal g.adjacency (end_of a w) ≡ true → is_member (a ∷ q) g.banned (a ∷ w) ≡ true
   walk_back [] [] a u l k e = subst (λ (b : Bool). b && true ≡ true) (sym (same_is_true a)) refl
   walk_back [] (b ∷ w) a u l k e =
       let h = is_allowed a k.0 b k.2 in
-      let f : not (nat_eq a g.spur && is_in g.banned b) ≡ true = rw l.1 at h in
+      let f : not (nat_eq a g.spur && is_in g.banned b) ≡ true = and_right (waits (slice_get g.onward b)) (not (nat_eq a g.spur && is_in g.banned b)) (rw l.1 at h) in
       let i : not (is_in g.banned b) ≡ true = subst (λ (c : Bool). not (c && is_in g.banned b) ≡ true) (eq-eqb a g.spur l.0) f in
       subst (λ (c : Bool). c && not (is_in g.banned b) ≡ true) (sym (same_is_true a)) i
   walk_back (b' ∷ q) [] a u l k e = absurd (true≢false (sym e ∙ l.1))
@@ -116,7 +119,7 @@ module _ {C : Type 0} (value : C → ℤ) (g : FilteredLists C) where
   not_banned : (a : ℕ) (z : ℤ) (n : ℕ) → LeadsOn g.adjacency g.onward g.spur a [] → FilteredStep value g a z n → not (is_in g.banned n) ≡ true
   not_banned a z n l s =
       let h = is_allowed a z n s in
-      let f : not (nat_eq a g.spur && is_in g.banned n) ≡ true = rw l.1 at h in
+      let f : not (nat_eq a g.spur && is_in g.banned n) ≡ true = and_right (waits (slice_get g.onward n)) (not (nat_eq a g.spur && is_in g.banned n)) (rw l.1 at h) in
       subst (λ (c : Bool). not (c && is_in g.banned n) ≡ true) (eq-eqb a g.spur l.0) f
 
   -- a walk that is left, and one step more, go on from the prefix to a number that is not banned, or stay within it
@@ -140,13 +143,26 @@ module _ {C : Type 0} (value : C → ℤ) (g : FilteredLists C) where
       ])
 
   module _ (q : List ℕ) (filtered_lists : IsFilteredTo g.adjacency g.onward g.spur q) where
-    free_behind : (r : List ℕ) → NoRepeats nat_eq ((0 ∷ q) ++ r) → (x y : ℕ) → HasNode nat_eq r x → allows g x y ≡ true
-    free_behind r n x y h =
+    -- what does not stand in the prefix is not the spur
+    off_spur : (x : ℕ) → ¬ (HasNode nat_eq (0 ∷ q) x) → nat_eq x g.spur ≡ false
+    off_spur x out = elim (bool_dec (nat_eq x g.spur)) as (λ _. nat_eq x g.spur ≡ false) [
+      | inl t ↦ absurd (out (subst (λ (z : ℕ). HasNode nat_eq (0 ∷ q) z) (sym (eqb-true x g.spur t)) (spur_of q 0 filtered_lists.leads)))
+      | inr f ↦ f
+    ]
+
+    -- and no number has to follow it
+    waits_off : (x : ℕ) → ¬ (HasNode nat_eq (0 ∷ q) x) → waits (slice_get g.onward x) ≡ true
+    waits_off x out = at (slice_get g.onward x) (λ y. filtered_lists.free x y out)
+      where
+        at : (o : Option (Option ℕ)) → ((y : ℕ) → ¬ (o ≡ Some (Some y))) → waits o ≡ true
+        at None n = refl
+        at (Some None) n = refl
+        at (Some (Some y)) n = absurd (n y refl)
+
+    free_behind : (r : List ℕ) → NoRepeats nat_eq ((0 ∷ q) ++ r) → (x y : ℕ) → HasNode nat_eq r x → HasNode nat_eq r y → allows g x y ≡ true
+    free_behind r n x y h k =
         let out = not_twice (0 ∷ q) r x n h in
-        free_step x y (λ z. filtered_lists.free x z out) (and_false (nat_eq x g.spur) (is_in g.banned y) (elim (bool_dec (nat_eq x g.spur)) as (λ _. nat_eq x g.spur ≡ false) [
-          | inl t ↦ absurd (out (subst (λ (z : ℕ). HasNode nat_eq (0 ∷ q) z) (sym (eqb-true x g.spur t)) (spur_of q 0 filtered_lists.leads)))
-          | inr f ↦ f
-        ]))
+        free_step x y (λ z. filtered_lists.free x z out) (waits_off y (not_twice (0 ∷ q) r y n k)) (and_false (nat_eq x g.spur) (is_in g.banned y) (off_spur x out))
 
     -- a clean path of the class is a walk of the narrowed graph
     pub class_walk : (p : List ℕ) (u : ℤ) (c : IsCleanNumbers value g.adjacency p u) → is_member (0 ∷ q) g.banned p ≡ true → GoesAlong (FilteredStep value g) 0 c.rest u
@@ -156,7 +172,7 @@ module _ {C : Type 0} (value : C → ℤ) (g : FilteredLists C) where
         let f : c.rest ≡ q ++ k.0 = cc in
         let n = subst (λ (v : List ℕ). NoRepeats nat_eq (0 ∷ v)) f c.distinct in
         subst (λ (v : List ℕ). GoesAlong (FilteredStep value g) 0 v u) (sym f)
-        (walk_on q k.0 0 u filtered_lists.leads k.2 (free_behind k.0 n) (subst (λ (v : List ℕ). GoesAlong (AdjacencyStep value g.adjacency) 0 v u) f c.goes))
+        (walk_on q k.0 0 u filtered_lists.leads k.2 (λ y h. waits_off y (not_twice (0 ∷ q) k.0 y n h)) (free_behind k.0 n) (subst (λ (v : List ℕ). GoesAlong (AdjacencyStep value g.adjacency) 0 v u) f c.goes))
 
     -- where no walk is left, no clean path is in the class
     pub none_left : (n : ℕ) → 0 < n → NoGoal (FilteredStep value g) (is_goal g.adjacency) (StandsForItself n 0) → (p : List ℕ) (u : ℤ) → IsCleanNumbers value g.adjacency p u → is_member (0 ∷ q) g.banned p ≡ false

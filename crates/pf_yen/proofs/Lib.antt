@@ -3,12 +3,13 @@ pub mod ReducedLemmas
 pub mod LedLemmas
 pub mod NamedLemmas
 pub mod ResultLemmas
+pub mod RowLemmas
+pub mod MarkLemmas
 pub mod FilteredLemmas
 pub mod ClassLemmas
 pub mod FilteredWalks
 pub mod SplitLemmas
 pub mod ExploreLemmas
-pub mod AdjacencyLemmas
 pub mod CandidateLemmas
 pub mod NodePaths
 pub mod StateLemmas

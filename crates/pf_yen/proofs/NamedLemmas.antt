@@ -13,16 +13,17 @@ use Rattle.pf_yen.specs.Internal.WholeGraphs.{IsWhole}
 use Rattle.pf_yen.specs.Internal.Classes.{is_in, is_member, IsCleanNumbers}
 use Rattle.pf_yen.specs.Internal.Splits.{LeadsOn, IsFilteredTo, IsCheapestAlong, HasNoneAlong}
 use Rattle.pf_yen.specs.Internal.Remaining.{AreRemaining}
-use Rattle.pf_yen.specs.Internal.NamedWays.{waits, is_new, is_first, IsSpent, IsFirstStep, HasNoFirst, IsBestFirst, IsNextStep, IsPrefix, IsWaySoFar}
+use Rattle.pf_yen.specs.Internal.Filtered.{waits, is_new}
+use Rattle.pf_yen.specs.Internal.NamedWays.{is_first, IsSpent, IsFirstStep, HasNoFirst, IsBestFirst, IsNextStep, IsPrefix, IsWaySoFar}
 use Rattle.pf_yen.proofs.FilteredWalks.{not_twice, not_true}
 use Rattle.pf_yen.proofs.ClassLemmas.{both_true, and_left, and_right, same_is_true, goes_on, member_of}
 use Rattle.pf_yen.proofs.SplitLemmas.{ends_at_spur, spur_in, free_waits, cut_goes}
 use Rattle.pf_yen.proofs.RemainingLemmas.{one_cost, remains}
 
-none_some : {X : Type 0} (x : X) → ¬ (None ≡ Some x)
+pub none_some : {X : Type 0} (x : X) → ¬ (None ≡ Some x)
 none_some x e = cc
 
-some_same : {X : Type 0} (x y : X) → Some x ≡ Some y → x ≡ y
+pub some_same : {X : Type 0} (x y : X) → Some x ≡ Some y → x ≡ y
 some_same x y e = cc
 
 false_right : (a b : Bool) → b ≡ false → a && b ≡ false

@@ -1,12 +1,12 @@
 -- Rows of steps at reduced costs, as they are made.
 use Rattle.std.proofs.Common.{◌≡◌, ℕ, ◌<◌, ◌+◌, ◌∙◌, sym, ap, subst, arith, inl, inr, true, List, [], ◌∷◌, ◌++◌, length, length-append, take, get_or, ℤ, pos, Option, Some}
-use Rattle.std.specs.Prelude.{◌+ℤ◌, Contains, slice_get, slice_index_or, Vec}
+use Rattle.std.specs.Prelude.{◌+ℤ◌, Contains, slice_get, slice_index_or}
 use Rattle.std.proofs.Math.Seq.{get_or-append_seam}
-use Rattle.std.proofs.lemmas.List.{get_or_append_left, get_or-map, length-map, map-append}
+use Rattle.std.proofs.lemmas.List.{get_or_append_left}
 use Rattle.std.proofs.lemmas.List.Elements.{Contains-append_left, Contains-append_right}
 use Rattle.pf_base.proofs.ListLemmas.{nat_dec, at_place, Contains-head, Contains-take, Contains-take_here, Contains-take_more, Contains-append_one}
 use Rattle.pf_yen.specs.Internal.Adjacency.{AdjacencyLists, row_of, is_goal}
-use Rattle.pf_yen.specs.Internal.Reduced.{IsReducedRow, steps_of}
+use Rattle.pf_yen.specs.Internal.Reduced.{IsReducedRow}
 use Rattle.pf_yen.proofs.FilteredLemmas.{in_none}
 use Rattle.pf_yen.proofs.RemainingLemmas.{one_cost}
 
@@ -92,12 +92,3 @@ module _ {C : Type 0} (value : C → ℤ) (costs : List (Option C)) where
         | inr d ↦ so_far.free a (omega (arith, l, d)) t
       ];
     }
-
--- a row that is held is one of the rows
-pub held_led : {C A : Type 0} (held : List (Vec (ℕ × C) A)) (i : ℕ) (row : Vec (ℕ × C) A) → i < length (steps_of held) → row ≡ get_or held i row → row.items ≡ slice_index_or (steps_of held) i []
-held_led {C} {A} held i row inside at =
-    let n : length (steps_of held) ≡ length held = length-map held (λ (v : Vec (ℕ × C) A). v.items) in
-    ap (λ (v : Vec (ℕ × C) A). v.items) at ∙ sym (get_or-map (λ (v : Vec (ℕ × C) A). v.items) held i row [] (subst (λ (m : ℕ). i < m) n inside))
-
-pub held_more : {C A : Type 0} (held : List (Vec (ℕ × C) A)) (row : Vec (ℕ × C) A) (more : List (Vec (ℕ × C) A)) → more ≡ held ++ row ∷ [] → steps_of more ≡ steps_of held ++ row.items ∷ []
-held_more {C} {A} held row more is = ap (λ (vs : List (Vec (ℕ × C) A)). steps_of vs) is ∙ map-append (λ (v : Vec (ℕ × C) A). v.items) held (row ∷ [])

@@ -103,6 +103,9 @@ ended_parts p h =
 pub not_ended_given : {N C : Type 0} (p : PathPlans N C) → p.is_given ≡ true → ¬ (has_ended p ≡ true)
 not_ended_given p g h = let z = ended_parts p h in true≢false (sym g ∙ z.1)
 
+pub not_ended_new : {N C : Type 0} (p : PathPlans N C) → p.has_begun ≡ false → ¬ (has_ended p ≡ true)
+not_ended_new p n h = let z = ended_parts p h in true≢false (sym z.0 ∙ n)
+
 pub not_ended_chosen : {N C : Type 0} (p : PathPlans N C) (c : Plan C) → p.chosen ≡ Some c → ¬ (has_ended p ≡ true)
 not_ended_chosen p c is h =
     let z = ended_parts p h in

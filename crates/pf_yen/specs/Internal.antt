@@ -7,6 +7,8 @@ pub mod Candidates
 pub mod PathPlans
 pub mod PlannedSearch
 pub mod Given
+pub mod Rows
+pub mod Marks
 pub mod Filtered
 pub mod Splits
 pub mod Gathered

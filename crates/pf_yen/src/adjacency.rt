@@ -2,10 +2,11 @@
 
 ghost use Rattle.std.specs.Prelude.{◌≡◌, ◌<◌, [], ◌∷◌, ◌++◌, ⊤, length, OnOk, OnErr, IfErr, MatchOption};
 ghost use Rattle.pf_yen.specs.Internal.Adjacency.{row_of, is_goal};
-ghost use Rattle.pf_yen.specs.Internal.Reduced.{Leads, steps_of};
+ghost use Rattle.pf_yen.specs.Internal.Reduced.{Leads};
 ghost use Rattle.pf_yen.specs.Internal.Remaining.{AreRemaining};
 
 use crate::reduced::{Guide, Reduced, guide_to_goals};
+use crate::rows::Rows;
 use pf_base::{Cost, PathError};
 use std::alloc::Allocator;
 use std::marker::Model;
@@ -15,24 +16,25 @@ use std::marker::Model;
 /// that was looked for and found.
 #[derive(Drop)]
 pub struct Adjacency<C: Cost, A: Allocator> {
-    rows: Vec<(Vec<(usize, C), A>, bool), A>,
+    rows: Rows<C, A>,
+    goals: Vec<bool, A>,
     guide: Option<Guide<C, A>>,
     /// Whether what remains was looked for.
     is_looked_for: bool,
 }
 
 impl<C: Cost, A: Allocator> Model for Adjacency<C, A> {
-    ghost use Rattle.std.specs.Prelude.{⊤, MatchOption};
-    ghost use Rattle.pf_yen.specs.Internal.Adjacency.{AdjacencyLists, adjacency_code, lists_of};
+    ghost use Rattle.std.specs.Prelude.{◌≡◌, ⊤, length, MatchOption};
+    ghost use Rattle.pf_yen.specs.Internal.Adjacency.{AdjacencyLists, adjacency_code};
     ghost use Rattle.pf_yen.specs.Internal.Reduced.{Guides};
 
     ghost Value = { AdjacencyLists C };
 
     ghost coded = { adjacency_code C.code };
 
-    ghost view = { λ s. lists_of s.rows.items };
+    ghost view = { λ s. record { rows = s.rows; goals = s.goals.items } };
 
-    ghost invariant = { λ s. MatchOption s.guide ⊤ (λ guide. Guides C.value C.fits (lists_of s.rows.items) guide) };
+    ghost invariant = { λ s. (length s.goals.items ≡ length s.rows) × MatchOption s.guide ⊤ (λ guide. Guides C.value C.fits (record { rows = s.rows; goals = s.goals.items }) guide) };
 }
 
 impl<C: Cost, A: Allocator> Adjacency<C, A> {
@@ -43,7 +45,8 @@ impl<C: Cost, A: Allocator> Adjacency<C, A> {
         ensures { result ≡ record { rows = []; goals = [] } }
     {
         Adjacency {
-            rows: Vec::new(alloc),
+            rows: Rows::new(alloc),
+            goals: Vec::new(alloc),
             guide: None,
             is_looked_for: false,
         }
@@ -61,7 +64,7 @@ impl<C: Cost, A: Allocator> Adjacency<C, A> {
         requires { number < length self.now.rows }
         ensures { result.now ≡ row_of self.now number }
     {
-        &self.rows[number].0
+        self.rows.row(number)
     }
 
     /// Is the number a goal?
@@ -69,18 +72,22 @@ impl<C: Cost, A: Allocator> Adjacency<C, A> {
         requires { number < length self.now.rows }
         ensures { result ≡ is_goal self.now number }
     {
-        self.rows[number].1
+        self.goals[number]
     }
 
     /// Puts in what was learned of the next number. Where memory is refused, nothing changes.
-    pub fn add(&mut self, row: Vec<(usize, C), A>, goal: bool) -> Result<(), PathError>
-        ensures added { OnOk result (self.new ≡ record { rows = self.old.rows ++ row.items ∷ []; goals = self.old.goals ++ goal ∷ [] }) }
+    pub fn add(&mut self, row: &[(usize, C)], goal: bool) -> Result<(), PathError>
+        ensures added { OnOk result (self.new ≡ record { rows = self.old.rows ++ row.now ∷ []; goals = self.old.goals ++ goal ∷ [] }) }
         ensures kept { OnErr result (self.new ≡ self.old) }
         ensures refused { IfErr result (λ e. e ≡ PathError.OutOfMemory) }
     {
         self.guide = None;
         self.is_looked_for = false;
-        self.rows.push((row, goal))?;
+        self.goals.push(goal)?;
+        if let Err(refusal) = self.rows.add(row) {
+            self.goals.pop();
+            return Err(refusal);
+        }
         Ok(())
     }
 
@@ -110,7 +117,7 @@ impl<C: Cost, A: Allocator> Adjacency<C, A> {
 
     /// The steps at reduced costs, where they are known.
     pub fn reduced(&self) -> Option<Reduced<'_, C, A>>
-        ensures { MatchOption result ⊤ (λ led. Leads C.value C.fits self.now led.remaining.now (steps_of led.rows.now)) }
+        ensures { MatchOption result ⊤ (λ led. Leads C.value C.fits self.now led.remaining.now led.rows.now) }
     {
         let guide = self.guide.as_ref()?;
         let rows = guide.reduced.as_ref()?;

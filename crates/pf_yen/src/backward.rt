@@ -8,6 +8,61 @@ use std::alloc::Allocator;
 use std::cmp::Reverse;
 use std::collections::BinaryHeap;
 
+/// A step by the number at which it begins and what it costs.
+#[derive(Drop)]
+struct StepBack<C> {
+    from: usize,
+    price: C,
+    /// Where the step that was put in before it, to the same number, stands: the place behind it, or 0
+    /// where there is none.
+    before: usize,
+}
+
+/// The steps of a graph by the numbers at which they end, in one block.
+#[derive(Drop)]
+struct StepsBack<C: Cost, A: Allocator> {
+    steps: Vec<StepBack<C>, A>,
+    /// The place behind the last step to each number, or 0 where there is none.
+    last: Vec<usize, A>,
+}
+
+impl<C: Cost, A: Allocator> StepsBack<C, A> {
+    /// Puts in the steps of a row, which begin at a number.
+    fn put(&mut self, number: usize, row: &[(usize, C)]) -> Result<(), PathError>
+        ensures refused { IfErr result (λ e. e ≡ PathError.OutOfMemory) }
+    {
+        'steps: for (next, price) in row {
+            if *next < self.last.len() {
+                self.steps.push(StepBack {
+                    from: number,
+                    price: *price,
+                    before: self.last[*next],
+                })?;
+                self.last[*next] = self.steps.len();
+            }
+        }
+        Ok(())
+    }
+}
+
+/// The steps of a known graph by the numbers at which they end.
+fn steps_back<C: Cost, A: Allocator + Copy>(
+    alloc: A,
+    adjacency: &Adjacency<C, A>,
+) -> Result<StepsBack<C, A>, PathError>
+    ensures refused { IfErr result (λ e. e ≡ PathError.OutOfMemory) }
+{
+    let mut back = StepsBack {
+        steps: Vec::new(alloc),
+        last: Vec::new(alloc),
+    };
+    back.last.resize(adjacency.len(), 0)?;
+    'numbers: for number in 0..adjacency.len() {
+        back.put(number, adjacency.row(number))?;
+    }
+    Ok(back)
+}
+
 /// The least cost that was found so far from each number to a goal, and the numbers that wait.
 #[derive(Drop)]
 struct Backward<C: Cost, A: Allocator> {
@@ -36,55 +91,27 @@ impl<C: Cost, A: Allocator> Backward<C, A> {
 
     /// Goes back by the steps to a number from which a goal costs so much. The answer is whether all
     /// sums fit.
-    fn go_back(&mut self, row: &[(usize, C)], cost: C) -> Result<bool, PathError>
+    fn go_back(&mut self, back: &StepsBack<C, A>, number: usize, cost: C) -> Result<bool, PathError>
         ensures wide { length self.new.costs.items ≡ length self.old.costs.items }
         ensures refused { IfErr result (λ e. e ≡ PathError.OutOfMemory) }
     {
-        'steps: for (before, price) in row {
-            let Some(sum) = price.checked_add(&cost) else {
+        let mut place = match back.last.get(number) {
+            Some(place) => *place,
+            None => 0,
+        };
+        'steps: for _ in 0..back.steps.len() {
+            if place == 0 || place > back.steps.len() {
+                break;
+            }
+            let step = &back.steps[place - 1];
+            let Some(sum) = step.price.checked_add(&cost) else {
                 return Ok(false);
             };
-            self.note(*before, sum)?;
+            self.note(step.from, sum)?;
+            place = step.before;
         }
         Ok(true)
     }
-}
-
-/// Puts the steps of a row, which begin at a number, to the numbers at which they end.
-fn put_steps<C: Cost, A: Allocator>(
-    rows: &mut Vec<Vec<(usize, C), A>, A>,
-    number: usize,
-    row: &[(usize, C)],
-) -> Result<(), PathError>
-    ensures wide { length rows.new.items ≡ length rows.old.items }
-    ensures refused { IfErr result (λ e. e ≡ PathError.OutOfMemory) }
-{
-    'steps: for (next, price) in row {
-        if *next < rows.len() {
-            rows[*next].push((number, *price))?;
-        }
-    }
-    Ok(())
-}
-
-/// For each number the numbers from which a step leads to it, with its cost. No path goes on from a
-/// goal.
-fn steps_back<C: Cost, A: Allocator + Copy>(
-    alloc: A,
-    adjacency: &Adjacency<C, A>,
-) -> Result<Vec<Vec<(usize, C), A>, A>, PathError>
-    ensures refused { IfErr result (λ e. e ≡ PathError.OutOfMemory) }
-{
-    let mut rows = Vec::new(alloc);
-    'rows: for _ in 0..adjacency.len() {
-        rows.push(Vec::new(alloc))?;
-    }
-    'numbers: for number in 0..adjacency.len() {
-        if !adjacency.is_goal(number) {
-            put_steps(&mut rows, number, adjacency.row(number))?;
-        }
-    }
-    Ok(rows)
 }
 
 /// A search in which each goal waits, at no cost.
@@ -117,16 +144,14 @@ pub fn costs_to_goals<C: Cost, A: Allocator + Copy>(
     ensures wide { IfOk result (λ found. IfSome found (λ costs. length costs.items ≡ length adjacency.now.rows)) }
     ensures refused { IfErr result (λ e. e ≡ PathError.OutOfMemory) }
 {
-    let rows = steps_back(alloc, adjacency)?;
+    let back = steps_back(alloc, adjacency)?;
     let mut search = at_goals(alloc, adjacency)?;
     'entries: for _ in 0..usize::MAX {
         let Some(Reverse((cost, number))) = search.waiting.pop() else {
             break;
         };
-        if number < rows.len() && !is_stale(&search.costs, number, cost) {
-            if !search.go_back(&rows[number], cost)? {
-                return Ok(None);
-            }
+        if !is_stale(&search.costs, number, cost) && !search.go_back(&back, number, cost)? {
+            return Ok(None);
         }
     }
     Ok(Some(search.costs))

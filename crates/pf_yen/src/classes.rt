@@ -19,7 +19,6 @@ use crate::named::Named;
 use pf_base::{Cost, PathError, Tally};
 use pf_core::dijkstra::cheapest_path;
 use std::alloc::Allocator;
-use std::mem;
 
 /// A cheapest walk of the narrowed graph, as a candidate whose prefix ends at the place `spur`. The
 /// banned numbers are moved out.
@@ -34,17 +33,17 @@ pub fn least_of_class<C: Cost, A: Allocator + Copy>(
     ensures adjacency { filtered.new.adjacency.now ≡ filtered.old.adjacency.now }
     ensures onward { filtered.new.onward.items ≡ filtered.old.onward.items }
     ensures spur { filtered.new.spur ≡ filtered.old.spur }
-    ensures banned { OnOk result (filtered.new.banned.items ≡ []) }
+    ensures banned { OnOk result (filtered.new.banned ≡ []) }
     ensures least { IfOk result (λ answer. (q : List ℕ) → IsFilteredTo filtered.old.adjacency.now filtered.old.onward.items filtered.old.spur q
-        → MatchOption answer (HasNoneAlong C.value filtered.old.adjacency.now q filtered.old.banned.items)
-        (λ c. IsCheapestAlong C.value filtered.old.adjacency.now q filtered.old.banned.items c.path.items c.cost)) }
-    ensures parts { IfOk result (λ answer. IfSome answer (λ c. (c.spur ≡ spur) × (c.banned.items ≡ filtered.old.banned.items))) }
+        → MatchOption answer (HasNoneAlong C.value filtered.old.adjacency.now q filtered.old.banned)
+        (λ c. IsCheapestAlong C.value filtered.old.adjacency.now q filtered.old.banned c.path.items c.cost)) }
+    ensures parts { IfOk result (λ answer. IfSome answer (λ c. (c.spur ≡ spur) × (c.banned.items ≡ filtered.old.banned))) }
     ensures overflow { result ≡ Err PathError.CostOverflow → OverflowsFromStart C.value (graph_filtered_by filtered.old) C.fits }
     ensures errors { IfErr result (λ e. (e ≡ PathError.OutOfMemory) ⊎ (e ≡ PathError.CostOverflow)) }
 {
     let mut tally = Tally::new();
     let answer = cheapest_path(alloc, filtered, 0, &mut tally)?;
-    let banned = mem::replace(&mut filtered.banned, Vec::new(alloc));
+    let banned = filtered.banned.take(alloc);
     match answer {
         None => Ok(None),
         Some((path, cost)) => Ok(Some(Candidate {
@@ -69,11 +68,11 @@ fn searched<C: Cost, A: Allocator + Copy>(
     ensures onward { filtered.new.onward.items ≡ filtered.old.onward.items }
     ensures spur { filtered.new.spur ≡ filtered.old.spur }
     ensures spent { OnOk result (filtered.new.spent ≡ filtered.old.spent) }
-    ensures banned { OnOk result (filtered.new.banned.items ≡ []) }
+    ensures banned { OnOk result (filtered.new.banned ≡ []) }
     ensures least { IfOk result (λ answer. (q : List ℕ) → IsFilteredTo filtered.old.adjacency.now filtered.old.onward.items filtered.old.spur q
-        → MatchOption answer (HasNoneAlong C.value filtered.old.adjacency.now q filtered.old.banned.items)
-        (λ c. IsCheapestAlong C.value filtered.old.adjacency.now q filtered.old.banned.items c.path.items c.cost)) }
-    ensures parts { IfOk result (λ answer. IfSome answer (λ c. (c.spur ≡ spur) × (c.banned.items ≡ filtered.old.banned.items))) }
+        → MatchOption answer (HasNoneAlong C.value filtered.old.adjacency.now q filtered.old.banned)
+        (λ c. IsCheapestAlong C.value filtered.old.adjacency.now q filtered.old.banned c.path.items c.cost)) }
+    ensures parts { IfOk result (λ answer. IfSome answer (λ c. (c.spur ≡ spur) × (c.banned.items ≡ filtered.old.banned))) }
     ensures overflow { result ≡ Err PathError.CostOverflow → OverflowsFromStart C.value (graph_filtered_by filtered.old) C.fits }
     ensures errors { IfErr result (λ e. (e ≡ PathError.OutOfMemory) ⊎ (e ≡ PathError.CostOverflow)) }
 {
@@ -102,10 +101,10 @@ fn least_behind<C: Cost, A: Allocator + Copy>(
     ensures onward { filtered.new.onward.items ≡ filtered.old.onward.items }
     ensures spur { filtered.new.spur ≡ filtered.old.spur }
     ensures spent { OnOk result (filtered.new.spent ≡ filtered.old.spent) }
-    ensures banned { OnOk result (filtered.new.banned.items ≡ []) }
-    ensures least { IfOk result (λ answer. MatchOption answer (HasNoneAlong C.value filtered.old.adjacency.now (take spur (drop 1 path.now)) filtered.old.banned.items)
-        (λ c. IsCheapestAlong C.value filtered.old.adjacency.now (take spur (drop 1 path.now)) filtered.old.banned.items c.path.items c.cost)) }
-    ensures parts { IfOk result (λ answer. IfSome answer (λ c. (c.spur ≡ spur) × (c.banned.items ≡ filtered.old.banned.items))) }
+    ensures banned { OnOk result (filtered.new.banned ≡ []) }
+    ensures least { IfOk result (λ answer. MatchOption answer (HasNoneAlong C.value filtered.old.adjacency.now (take spur (drop 1 path.now)) filtered.old.banned)
+        (λ c. IsCheapestAlong C.value filtered.old.adjacency.now (take spur (drop 1 path.now)) filtered.old.banned c.path.items c.cost)) }
+    ensures parts { IfOk result (λ answer. IfSome answer (λ c. (c.spur ≡ spur) × (c.banned.items ≡ filtered.old.banned))) }
     ensures overflow { result ≡ Err PathError.CostOverflow → OverflowsFromStart C.value (graph_filtered_by filtered.old) C.fits }
     ensures errors { IfErr result (λ e. (e ≡ PathError.OutOfMemory) ⊎ (e ≡ PathError.CostOverflow)) }
 {
@@ -114,10 +113,10 @@ fn least_behind<C: Cost, A: Allocator + Copy>(
             path,
             cost,
             spur,
-            banned: mem::replace(&mut filtered.banned, Vec::new(alloc)),
+            banned: filtered.banned.take(alloc),
         })),
         Named::Nothing => {
-            filtered.banned.clear();
+            let _banned = filtered.banned.take(alloc);
             Ok(None)
         }
         Named::Unknown => searched(alloc, filtered, spur),
@@ -137,7 +136,7 @@ fn filtered_along<'k, C: Cost, A: Allocator + Copy>(
     requires inside { spur < length path.now }
     ensures adjacency { IfOk result (λ filtered. filtered.adjacency.now ≡ adjacency.now) }
     ensures wide { IfOk result (λ filtered. length filtered.onward.items ≡ length adjacency.now.rows) }
-    ensures banned { IfOk result (λ filtered. filtered.banned.items ≡ []) }
+    ensures banned { IfOk result (λ filtered. filtered.banned ≡ []) }
     ensures filtered { IfOk result (λ filtered. IsFilteredTo adjacency.now filtered.onward.items filtered.spur (take spur (drop 1 path.now))) }
     ensures spent { IfOk result (λ filtered. IsSpent C.value adjacency.now (take spur (drop 1 path.now)) filtered.spent) }
     ensures refused { IfErr result (λ e. e ≡ PathError.OutOfMemory) }
@@ -163,17 +162,17 @@ fn split_along<C: Cost, A: Allocator + Copy>(
     requires cheapest { IsCheapestOfClass C.value filtered.old.adjacency.now (plan_of candidate.now) }
     requires filtered { IsFilteredTo filtered.old.adjacency.now filtered.old.onward.items filtered.old.spur (take candidate.now.spur (drop 1 candidate.now.path.items)) }
     requires spent { IsSpent C.value filtered.old.adjacency.now (take candidate.now.spur (drop 1 candidate.now.path.items)) filtered.old.spent }
-    requires banned { filtered.old.banned.items ≡ [] }
+    requires banned { filtered.old.banned ≡ [] }
     requires empty { plans.old.items ≡ [] }
     ensures split { OnOk result (IsSplit C.value filtered.old.adjacency.now (plan_of candidate.now) (map plan_of plans.new.items)) }
     ensures overflow { result ≡ Err PathError.CostOverflow → ClassOverflows C.value filtered.old.adjacency.now C.fits (plan_of candidate.now) }
     ensures errors { IfErr result (λ e. (e ≡ PathError.OutOfMemory) ⊎ (e ≡ PathError.CostOverflow)) }
 {
     candidate.cost.known();
-    filtered.banned.extend_from_slice(&candidate.banned)?;
+    filtered.banned.add_all(&candidate.banned)?;
     'places: for place in candidate.spur..candidate.path.len() - 1 {
         let next = candidate.path[place + 1];
-        filtered.banned.push(next)?;
+        filtered.banned.add(next)?;
         if let Some(plan) = least_behind(alloc, filtered, &candidate.path, place)? {
             plans.push(plan)?;
         }

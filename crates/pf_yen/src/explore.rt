@@ -9,11 +9,12 @@ use pf_base::{Cost, PathError};
 use pf_core::numbered::GoalGraph;
 use std::alloc::Allocator;
 
-/// Learns of the next number whether it is a goal, and its steps where it is none.
-fn explore_next<C: Cost, G: GoalGraph<C>, A: Allocator + Copy>(
-    alloc: A,
+/// Learns of the next number whether it is a goal, and its steps where it is none. They are written
+/// into the row first.
+fn explore_next<C: Cost, G: GoalGraph<C>, A: Allocator>(
     graph: &mut G,
     adjacency: &mut Adjacency<C, A>,
+    row: &mut Vec<(usize, C), A>,
 ) -> Result<(), PathError>
     requires inside { length adjacency.old.rows < G.node_count graph.old }
     requires graph { (g : G.Graph) × G.explores graph.old g }
@@ -26,9 +27,9 @@ fn explore_next<C: Cost, G: GoalGraph<C>, A: Allocator + Copy>(
 {
     let number = adjacency.len();
     let goal = graph.is_goal(number);
-    let mut row = Vec::new(alloc);
+    row.clear();
     if !goal {
-        graph.expand(number, &mut row)?;
+        graph.expand(number, row)?;
     }
     adjacency.add(row, goal)
 }
@@ -49,8 +50,9 @@ pub fn explore<C: Cost, G: GoalGraph<C>, A: Allocator + Copy>(
     ensures few { OnOk result (length adjacency.new.rows < 2 ^ 64) }
     ensures refused { IfErr result (λ e. e ≡ PathError.OutOfMemory) }
 {
+    let mut row = Vec::new(alloc);
     'numbers: while adjacency.len() < graph.node_count() {
-        explore_next(alloc, graph, adjacency)?;
+        explore_next(graph, adjacency, &mut row)?;
     }
     Ok(())
 }

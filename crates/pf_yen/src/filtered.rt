@@ -3,11 +3,12 @@
 ghost use Rattle.std.specs.Prelude.{◌≡◌, ◌≤ℤ◌, ◌<◌, ◌++◌, ◌∷◌, ◌+ℤ◌, ℕ, List, [], Some, None, length, map, replicate, slice_set, filter, Contains, OnOk, IfOk, IfErr, IfSome};
 ghost use Rattle.std.proofs.Common.{◌∙◌, sym};
 ghost use Rattle.pf_base.specs.Walks.{end_of};
-ghost use Rattle.pf_yen.specs.Internal.Filtered.{FilteredLists, allows, FilteredStep, StandsForItself, EndsInside, graph_filtered_by, filtered_row};
+ghost use Rattle.pf_yen.specs.Internal.Filtered.{FilteredLists, is_new, allows, FilteredStep, StandsForItself, EndsInside, graph_filtered_by, filtered_row};
 ghost use Rattle.pf_yen.specs.Internal.Adjacency.{is_goal};
-ghost use Rattle.pf_yen.specs.Internal.NamedWays.{is_new, is_first, IsSpent};
+ghost use Rattle.pf_yen.specs.Internal.NamedWays.{is_first, IsSpent};
 
 use crate::adjacency::Adjacency;
+use crate::banned::Banned;
 use crate::remaining::lesser;
 use pf_base::{Cost, PathError};
 use pf_core::numbered::{GoalGraph, NumberedGraph};
@@ -15,13 +16,14 @@ use pf_core::row::Row;
 use std::alloc::Allocator;
 
 /// A known graph without some steps: from a number with an onward one, the steps to that one alone
-/// are left, and from the spur none to a banned number.
+/// are left, from another number none to one with an onward one, and from the spur none to a banned
+/// number.
 #[derive(Drop)]
 pub struct FilteredGraph<'k, C: Cost, A: Allocator> {
     pub adjacency: &'k Adjacency<C, A>,
     pub onward: Vec<Option<usize>, A>,
     pub spur: usize,
-    pub banned: Vec<usize, A>,
+    pub banned: Banned<A>,
     /// What the way to the spur costs, where that fits.
     pub spent: Option<C>,
 }
@@ -52,18 +54,19 @@ impl<'k, C: Cost, A: Allocator> FilteredGraph<'k, C, A> {
     pub fn new(alloc: A, adjacency: &'k Adjacency<C, A>) -> Result<Self, PathError>
     where
         A: Copy,
-        ensures graph { IfOk result (λ filtered. (filtered.adjacency.now ≡ adjacency.now) × (filtered.spur ≡ 0) × (filtered.banned.items ≡ [])) }
+        ensures graph { IfOk result (λ filtered. (filtered.adjacency.now ≡ adjacency.now) × (filtered.spur ≡ 0) × (filtered.banned ≡ [])) }
         ensures onward { IfOk result (λ filtered. filtered.onward.items ≡ replicate (length adjacency.now.rows) None) }
         ensures spent { IfOk result (λ filtered. IsSpent C.value adjacency.now [] filtered.spent) }
         ensures refused { IfErr result (λ e. e ≡ PathError.OutOfMemory) }
     {
+        let banned = Banned::nothing(alloc, adjacency.len())?;
         let mut onward = Vec::new(alloc);
         onward.resize(adjacency.len(), None)?;
         Ok(FilteredGraph {
             adjacency,
             onward,
             spur: 0,
-            banned: Vec::new(alloc),
+            banned,
             spent: Some(C::zero()),
         })
     }
@@ -75,7 +78,7 @@ impl<'k, C: Cost, A: Allocator> FilteredGraph<'k, C, A> {
         ensures adjacency { self.new.adjacency.now ≡ self.old.adjacency.now }
         ensures onward { self.new.onward.items ≡ slice_set self.old.onward.items self.old.spur (Some next) }
         ensures spur { self.new.spur ≡ next }
-        ensures banned { self.new.banned.items ≡ self.old.banned.items }
+        ensures banned { self.new.banned ≡ self.old.banned }
         ensures spent { (q : List ℕ) → IsSpent C.value self.old.adjacency.now q self.old.spent → end_of 0 q ≡ self.old.spur → IsSpent C.value self.old.adjacency.now (q ++ next ∷ []) self.new.spent }
     {
         self.spent = spent_on(self.spent, self.adjacency.row(self.spur), next);
@@ -94,19 +97,19 @@ impl<'k, C: Cost, A: Allocator> FilteredGraph<'k, C, A> {
     /// May a path go on to a number from the spur, and not come back?
     pub fn may_be_first(&self, number: usize) -> bool
         requires { number < length self.now.onward.items }
-        ensures { result ≡ is_first self.now.onward.items self.now.spur self.now.banned.items number }
+        ensures { result ≡ is_first self.now.onward.items self.now.spur self.now.banned number }
     {
-        self.is_new(number) && !self.banned.contains(&number)
+        self.is_new(number) && !self.banned.has(number)
     }
 
     /// Is a step from one number to the other left?
     fn allows(&self, from: usize, to: usize) -> bool
-        requires { from < length self.now.onward.items }
+        requires { (from < length self.now.onward.items) × (to < length self.now.onward.items) }
         ensures { result ≡ allows (graph_filtered_by self.now) from to }
     {
         match self.onward[from] {
             Some(only) => to == only,
-            None => from != self.spur || !self.banned.contains(&to),
+            None => self.onward[to].is_none() && (from != self.spur || !self.banned.has(to)),
         }
     }
 
@@ -118,6 +121,7 @@ impl<'k, C: Cost, A: Allocator> FilteredGraph<'k, C, A> {
         row: &mut R,
     ) -> Result<(), PathError>
         requires inside { node < length self.now.onward.items }
+        requires ends { (b : ℕ) (c : C) → Contains steps.now (b, c) → b < length self.now.onward.items }
         requires empty { R.holds row.old [] }
         ensures listed { OnOk result (R.holds row.new (filter (λ (e : ℕ × C). allows (graph_filtered_by self.now) node e.0) steps.now)) }
         ensures refused { IfErr result (λ e. e ≡ PathError.OutOfMemory) }

@@ -1,20 +1,19 @@
 //! A search for a cheapest path of a class that reduced costs lead: by them, each walk from the spur to
 //! a goal costs less by what remains there, so that the same ones are cheapest. None of them comes back
-//! to the numbers before the spur, from which the only way leads to the spur again.
+//! to the numbers before the spur, to which no step is left.
 
 ghost use Rattle.std.specs.Prelude.{◌≡◌, ◌<◌, ◌≤◌, ◌+◌, ◌+ℤ◌, ◌++◌, ◌∷◌, ℕ, List, Some, map, length, take, drop, IfOk, IfErr, IfSome};
 ghost use Rattle.std.proofs.Common.{◌∙◌, sym};
 ghost use Rattle.pf_yen.specs.Internal.Adjacency.{is_goal};
 ghost use Rattle.pf_yen.specs.Internal.Filtered.{FilteredLists, FilteredStep, StandsForItself, EndsInside, filtered_row};
 ghost use Rattle.pf_yen.specs.Internal.Led.{graph_led_by, IsWayAt};
-ghost use Rattle.pf_yen.specs.Internal.Reduced.{steps_of};
 ghost use Rattle.pf_yen.specs.Internal.NamedWays.{IsNamed, IsPrefix};
-ghost use Rattle.pf_yen.specs.Internal.Splits.{IsFilteredTo};
 ghost use Rattle.pf_yen.specs.Internal.WholeGraphs.{IsWhole};
 
 use crate::filtered::FilteredGraph;
 use crate::named::{Named, named_way};
 use crate::remaining::cost_at;
+use crate::rows::Rows;
 use pf_base::{Cost, PathError, Tally};
 use pf_core::dijkstra::cheapest_path;
 use pf_core::numbered::{GoalGraph, NumberedGraph};
@@ -25,7 +24,7 @@ use std::alloc::Allocator;
 #[derive(Drop)]
 struct LedGraph<'f, 'k, C: Cost, A: Allocator> {
     filtered: &'f FilteredGraph<'k, C, A>,
-    rows: &'f [Vec<(usize, C), A>],
+    rows: &'f Rows<C, A>,
 }
 
 impl<'f, 'k, C: Cost, A: Allocator> NumberedGraph<C> for LedGraph<'f, 'k, C, A> {
@@ -39,15 +38,15 @@ impl<'f, 'k, C: Cost, A: Allocator> NumberedGraph<C> for LedGraph<'f, 'k, C, A> 
 
     ghost passes = { λ g. is_goal g.adjacency };
 
-    ghost node_count = { λ s. length (steps_of s.rows.now) };
+    ghost node_count = { λ s. length s.rows.now };
 
-    ghost stands = { λ s. StandsForItself (length (steps_of s.rows.now)) };
+    ghost stands = { λ s. StandsForItself (length s.rows.now) };
 
     ghost explores = { λ s g. (g ≡ graph_led_by s) × EndsInside g.adjacency
-        × (length s.filtered.now.onward.items ≡ length (steps_of s.rows.now))
-        × (length s.filtered.now.adjacency.now.rows ≡ length (steps_of s.rows.now)) };
+        × (length s.filtered.now.onward.items ≡ length s.rows.now)
+        × (length s.filtered.now.adjacency.now.rows ≡ length s.rows.now) };
 
-    ghost can_forget = { λ s k. k ≡ length (steps_of s.rows.now) };
+    ghost can_forget = { λ s k. k ≡ length s.rows.now };
 
     fn node_count(&self) -> usize {
         self.rows.len()
@@ -55,7 +54,7 @@ impl<'f, 'k, C: Cost, A: Allocator> NumberedGraph<C> for LedGraph<'f, 'k, C, A> 
 
     fn expand<R: Row<C>>(&mut self, node: usize, row: &mut R) -> Result<(), PathError> {
         row.reset();
-        self.filtered.list_allowed(node, &self.rows[node], row)
+        self.filtered.list_allowed(node, self.rows.row(node), row)
     }
 
     fn forget(&mut self, _first: usize) {}
@@ -113,7 +112,7 @@ fn led_way<C: Cost, A: Allocator + Copy>(
     requires wide { length filtered.now.onward.items ≡ length filtered.now.adjacency.now.rows }
     requires inside { filtered.now.spur < length filtered.now.adjacency.now.rows }
     ensures named { IfOk result (λ named. (q : List ℕ) → begin.now ≡ 0 ∷ q → IsPrefix C.value filtered.now.adjacency.now filtered.now.onward.items filtered.now.spur q filtered.now.spent
-        → IsNamed C.value filtered.now.adjacency.now q filtered.now.banned.items named) }
+        → IsNamed C.value filtered.now.adjacency.now q filtered.now.banned named) }
     ensures refused { IfErr result (λ e. e ≡ PathError.OutOfMemory) }
 {
     let Some(reduced) = filtered.adjacency.reduced() else {
@@ -149,7 +148,7 @@ pub fn guided_way<C: Cost, A: Allocator + Copy>(
     requires begins { take (spur + 1) path.now ≡ 0 ∷ take spur (drop 1 path.now) }
     requires inside { spur < length path.now }
     requires prefix { IsPrefix C.value filtered.now.adjacency.now filtered.now.onward.items filtered.now.spur (take spur (drop 1 path.now)) filtered.now.spent }
-    ensures named { IfOk result (λ named. IsNamed C.value filtered.now.adjacency.now (take spur (drop 1 path.now)) filtered.now.banned.items named) }
+    ensures named { IfOk result (λ named. IsNamed C.value filtered.now.adjacency.now (take spur (drop 1 path.now)) filtered.now.banned named) }
     ensures refused { IfErr result (λ e. e ≡ PathError.OutOfMemory) }
 {
     match named_way(alloc, filtered, path, spur)? {

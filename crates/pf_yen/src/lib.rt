@@ -3,6 +3,7 @@
 
 mod adjacency;
 mod backward;
+mod banned;
 mod candidate;
 mod candidates;
 mod classes;
@@ -15,4 +16,5 @@ mod led;
 mod named;
 mod reduced;
 mod remaining;
+mod rows;
 mod standing;

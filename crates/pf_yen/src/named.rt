@@ -45,8 +45,8 @@ fn better<C: Cost, A: Allocator>(
     requires fits { (y : C) → slice_get costs.now next ≡ Some (Some y) → C.fits (C.value price +ℤ C.value y) }
     ensures { (steps more : List (ℕ × C)) → ((e : ℕ × C) → Contains steps e → Contains more e) → Contains more (next, price)
         → ((e : ℕ × C) → Contains more e → ((next, price) ≡ e) ⊎ Contains steps e)
-        → IsBestFirst C.value (is_first filtered.now.onward.items filtered.now.spur filtered.now.banned.items) costs.now steps best
-        → IsBestFirst C.value (is_first filtered.now.onward.items filtered.now.spur filtered.now.banned.items) costs.now more result }
+        → IsBestFirst C.value (is_first filtered.now.onward.items filtered.now.spur filtered.now.banned) costs.now steps best
+        → IsBestFirst C.value (is_first filtered.now.onward.items filtered.now.spur filtered.now.banned) costs.now more result }
 {
     let Some(rest) = cost_at(costs, next) else {
         return best;
@@ -73,7 +73,7 @@ fn best_first<C: Cost, A: Allocator>(
     requires inside { filtered.now.spur < length filtered.now.adjacency.now.rows }
     requires live { is_goal filtered.now.adjacency.now filtered.now.spur ≡ false }
     requires remaining { AreRemaining C.value C.fits filtered.now.adjacency.now costs.now }
-    ensures { IsBestFirst C.value (is_first filtered.now.onward.items filtered.now.spur filtered.now.banned.items) costs.now (row_of filtered.now.adjacency.now filtered.now.spur) result }
+    ensures { IsBestFirst C.value (is_first filtered.now.onward.items filtered.now.spur filtered.now.banned) costs.now (row_of filtered.now.adjacency.now filtered.now.spur) result }
 {
     let mut best = None;
     'steps: for (next, price) in filtered.adjacency.row(filtered.spur) {
@@ -136,8 +136,8 @@ fn go_to_goal<C: Cost, A: Allocator>(
     requires wide { length filtered.now.onward.items ≡ length filtered.now.adjacency.now.rows }
     requires inside { first < length filtered.now.adjacency.now.rows }
     ensures goal { IfOk result (λ found. found ≡ true → (q : List ℕ) (total : ℤ)
-        → IsWaySoFar C.value filtered.now.adjacency.now filtered.now.onward.items filtered.now.spur q filtered.now.banned.items costs.now total ((path.old.items ++ begin.now) ++ first ∷ []) first rest
-        → (number : ℕ) × (here : C) × IsWaySoFar C.value filtered.now.adjacency.now filtered.now.onward.items filtered.now.spur q filtered.now.banned.items costs.now total path.new.items number here
+        → IsWaySoFar C.value filtered.now.adjacency.now filtered.now.onward.items filtered.now.spur q filtered.now.banned costs.now total ((path.old.items ++ begin.now) ++ first ∷ []) first rest
+        → (number : ℕ) × (here : C) × IsWaySoFar C.value filtered.now.adjacency.now filtered.now.onward.items filtered.now.spur q filtered.now.banned costs.now total path.new.items number here
         × (is_goal filtered.now.adjacency.now number ≡ true) × (C.value C.zero ≤ℤ C.value here)) }
     ensures refused { IfErr result (λ e. e ≡ PathError.OutOfMemory) }
 {
@@ -178,7 +178,7 @@ pub fn named_way<C: Cost, A: Allocator + Copy>(
     requires begins { take (spur + 1) path.now ≡ 0 ∷ take spur (drop 1 path.now) }
     requires inside { spur < length path.now }
     requires prefix { IsPrefix C.value filtered.now.adjacency.now filtered.now.onward.items filtered.now.spur (take spur (drop 1 path.now)) filtered.now.spent }
-    ensures named { IfOk result (λ named. IsNamed C.value filtered.now.adjacency.now (take spur (drop 1 path.now)) filtered.now.banned.items named) }
+    ensures named { IfOk result (λ named. IsNamed C.value filtered.now.adjacency.now (take spur (drop 1 path.now)) filtered.now.banned named) }
     ensures refused { IfErr result (λ e. e ≡ PathError.OutOfMemory) }
 {
     let Some(costs) = filtered.adjacency.remaining() else {

@@ -2,10 +2,11 @@
 //! them: a search by these costs goes where little more than what remains is spent.
 
 ghost use Rattle.std.specs.Prelude.{◌≡◌, ◌+ℤ◌, ⊤, true, pos, length, Some, IfOk, IfErr, IfSome, MatchOption};
-ghost use Rattle.pf_yen.specs.Internal.Reduced.{IsReducedRow, AreReduced, Guides, steps_of};
+ghost use Rattle.pf_yen.specs.Internal.Reduced.{IsReducedRow, AreReduced, Guides};
 
 use crate::adjacency::Adjacency;
 use crate::remaining::{cost_at, remaining_costs};
+use crate::rows::Rows;
 use pf_base::{Cost, PathError};
 use std::alloc::Allocator;
 
@@ -14,14 +15,14 @@ use std::alloc::Allocator;
 #[derive(Drop)]
 pub struct Guide<C: Cost, A: Allocator> {
     pub remaining: Vec<Option<C>, A>,
-    pub reduced: Option<Vec<Vec<(usize, C), A>, A>>,
+    pub reduced: Option<Rows<C, A>>,
 }
 
 /// The same, where the reduced costs were found.
 #[derive(Drop)]
 pub struct Reduced<'k, C: Cost, A: Allocator> {
     pub remaining: &'k [Option<C>],
-    pub rows: &'k [Vec<(usize, C), A>],
+    pub rows: &'k Rows<C, A>,
 }
 
 /// What a step costs and what remains behind it, less what remains before it, where it is found.
@@ -32,26 +33,27 @@ fn reduced_cost<C: Cost>(here: Option<C>, price: C, rest: C) -> Option<C>
     sum.difference(here?)
 }
 
-/// The steps of a row at reduced costs, or `None` where one is not found.
-fn reduced_row<C: Cost, A: Allocator>(
-    alloc: A,
+/// Puts the steps of a row at reduced costs in place of those that were reduced before. The answer is
+/// whether all are found.
+fn reduce_row<C: Cost, A: Allocator>(
+    reduced: &mut Vec<(usize, C), A>,
     row: &[(usize, C)],
     costs: &[Option<C>],
     here: Option<C>,
-) -> Result<Option<Vec<(usize, C), A>>, PathError>
-    ensures reduced { IfOk result (λ found. IfSome found (λ reduced. IsReducedRow C.value costs.now row.now here reduced.items)) }
+) -> Result<bool, PathError>
+    ensures reduced { IfOk result (λ found. found ≡ true → IsReducedRow C.value costs.now row.now here reduced.new.items) }
     ensures refused { IfErr result (λ e. e ≡ PathError.OutOfMemory) }
 {
-    let mut reduced = Vec::new(alloc);
+    reduced.clear();
     'steps: for (next, price) in row {
         if let Some(rest) = cost_at(costs, *next) {
             let Some(cost) = reduced_cost(here, *price, rest) else {
-                return Ok(None);
+                return Ok(false);
             };
             reduced.push((*next, cost))?;
         }
     }
-    Ok(Some(reduced))
+    Ok(true)
 }
 
 /// Does nothing remain, as from a goal?
@@ -70,21 +72,21 @@ fn reduced_rows<C: Cost, A: Allocator + Copy>(
     alloc: A,
     adjacency: &Adjacency<C, A>,
     costs: &[Option<C>],
-) -> Result<Option<Vec<Vec<(usize, C), A>, A>>, PathError>
+) -> Result<Option<Rows<C, A>>, PathError>
     requires { length costs.now ≡ length adjacency.now.rows }
-    ensures reduced { IfOk result (λ found. MatchOption found ⊤ (λ rows. AreReduced C.value adjacency.now costs.now (steps_of rows.items))) }
+    ensures reduced { IfOk result (λ found. MatchOption found ⊤ (λ rows. AreReduced C.value adjacency.now costs.now rows)) }
     ensures refused { IfErr result (λ e. e ≡ PathError.OutOfMemory) }
 {
-    let mut rows = Vec::new(alloc);
+    let mut rows = Rows::new(alloc);
+    let mut reduced = Vec::new(alloc);
     'numbers: for number in 0..adjacency.len() {
         if adjacency.is_goal(number) && !is_nothing(costs[number]) {
             return Ok(None);
         }
-        let row = adjacency.row(number);
-        let Some(reduced) = reduced_row(alloc, row, costs, costs[number])? else {
+        if !reduce_row(&mut reduced, adjacency.row(number), costs, costs[number])? {
             return Ok(None);
-        };
-        rows.push(reduced)?;
+        }
+        rows.add(&reduced)?;
     }
     Ok(Some(rows))
 }

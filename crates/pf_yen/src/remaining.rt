@@ -2,7 +2,6 @@
 
 ghost use Rattle.std.specs.Prelude.{◌≡◌, ◌⊎◌, ◌≤ℤ◌, ◌<◌, ◌+ℤ◌, ⊤, true, ℕ, Some, Contains, slice_get, length, IfOk, IfErr, IfSome, MatchOption};
 ghost use Rattle.pf_yen.specs.Internal.Remaining.{IsLeastFrom, AreRemaining};
-ghost use Rattle.pf_yen.specs.Internal.Adjacency.{is_goal, row_of};
 
 use crate::adjacency::Adjacency;
 use crate::backward::costs_to_goals;

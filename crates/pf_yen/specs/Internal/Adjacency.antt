@@ -1,5 +1,5 @@
 -- What was learned of a graph over numbers.
-use Rattle.std.specs.Prelude.{◌≡◌, ℕ, ℤ, Bool, false, List, [], Contains, map, slice_index_or, refl, Vec}
+use Rattle.std.specs.Prelude.{◌≡◌, ℕ, ℤ, Bool, false, List, [], Contains, slice_index_or, refl}
 use Rattle.std.specs.Coded.{Coded, code_by, coded×, coded_bool, coded_ℕ, coded_list}
 
 -- the steps from each number, each as the number of its end and its cost, and which numbers are goals
@@ -9,10 +9,6 @@ pub record AdjacencyLists (C : Type 0) : Type 0 where
 
 abbrev pub adjacency_code : {C : Type 0} → Coded C → Coded (AdjacencyLists C)
 adjacency_code {C} c = code_by (List (List (ℕ × C)) × List Bool) (coded× (coded_list (coded_list (coded× coded_ℕ c))) (coded_list coded_bool)) (λ k. (k.rows, k.goals)) (λ p. record { rows = p.0; goals = p.1 }) (λ _. refl)
-
--- what the steps and the goals that are held beside each other are seen as
-abbrev pub lists_of : {C A : Type 0} → List (Vec (ℕ × C) A × Bool) → AdjacencyLists C
-lists_of {C} {A} held = record { rows = map (λ (e : Vec (ℕ × C) A × Bool). e.0.items) held; goals = map (λ (e : Vec (ℕ × C) A × Bool). e.1) held }
 
 module _ {C : Type 0} where
   -- the steps from a number; none, where nothing is known of it

@@ -1,16 +1,26 @@
 -- A known graph of which some steps are left out.
-use Rattle.std.specs.Prelude.{◌≡◌, ℕ, ℤ, ◌<◌, Bool, not, ◌&&◌, List, Option, Some, None, length, Contains, filter, slice_get, nat_eq}
+use Rattle.std.specs.Prelude.{◌≡◌, ℕ, ℤ, ◌<◌, Bool, true, false, not, ◌&&◌, List, Option, Some, None, length, Contains, filter, slice_get, nat_eq}
 use Rattle.pf_core.specs.Steps.{NumberedOverflows}
 use Rattle.pf_yen.specs.declared.filtered.FilteredGraph.{FilteredGraph}
 use Rattle.pf_yen.specs.Internal.Classes.{is_in}
 use Rattle.pf_yen.specs.Internal.Adjacency.{AdjacencyLists, is_goal, row_of}
 
--- the graph; for some numbers the only one that may follow; and the spur, behind which some numbers are banned
+-- the graph; for some numbers the only one that may follow, to which no other step is left; and the spur, behind which some numbers are banned
 pub record FilteredLists (C : Type 0) : Type 0 where
   pub adjacency : AdjacencyLists C
   pub onward : List (Option ℕ)
   pub spur : ℕ
   pub banned : List ℕ
+
+-- whether no number has to follow this one
+abbrev pub waits : Option (Option ℕ) → Bool
+waits (Some (Some y)) = false
+waits (Some None) = true
+waits None = true
+
+-- whether the number is neither the spur nor one before it
+abbrev pub is_new : List (Option ℕ) → ℕ → ℕ → Bool
+is_new onward spur x = waits (slice_get onward x) && not (nat_eq x spur)
 
 -- whether a step to b is left, from a number whose onward one is this
 abbrev pub allows_by : Option (Option ℕ) → Bool → ℕ → Bool
@@ -21,7 +31,7 @@ allows_by None otherwise b = otherwise
 module _ {C : Type 0} where
   -- whether a step from a to b is left
   abbrev pub allows : FilteredLists C → ℕ → ℕ → Bool
-  allows g a b = allows_by (slice_get g.onward a) (not (nat_eq a g.spur && is_in g.banned b)) b
+  allows g a b = allows_by (slice_get g.onward a) (waits (slice_get g.onward b) && not (nat_eq a g.spur && is_in g.banned b)) b
 
   -- the steps that are left
   abbrev pub filtered_row : FilteredLists C → ℕ → List (ℕ × C)
@@ -36,7 +46,7 @@ module _ {C : Type 0} where
 
 -- the graph that is searched, with what is left of it
 abbrev pub graph_filtered_by : {C A : Type 0} → FilteredGraph C A → FilteredLists C
-graph_filtered_by filtered = record { adjacency = filtered.adjacency.now; onward = filtered.onward.items; spur = filtered.spur; banned = filtered.banned.items }
+graph_filtered_by filtered = record { adjacency = filtered.adjacency.now; onward = filtered.onward.items; spur = filtered.spur; banned = filtered.banned }
 
 -- a known number stands for itself
 abbrev pub StandsForItself : ℕ → ℕ → ℕ → Type 0

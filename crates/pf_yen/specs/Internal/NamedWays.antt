@@ -1,22 +1,13 @@
 -- The way behind a prefix that remaining costs name.
-use Rattle.std.specs.Prelude.{◌≡◌, ◌⊎◌, ◌≤ℤ◌, ◌+ℤ◌, ◌<◌, ◌++◌, ℕ, ℤ, Bool, true, false, not, ◌&&◌, List, ◌∷◌, length, Contains, Option, Some, None, slice_get, nat_eq, MatchOption, ⊤}
+use Rattle.std.specs.Prelude.{◌≡◌, ◌⊎◌, ◌≤ℤ◌, ◌+ℤ◌, ◌<◌, ◌++◌, ℕ, ℤ, Bool, true, false, not, ◌&&◌, List, ◌∷◌, length, Contains, Option, Some, slice_get, nat_eq, MatchOption, ⊤}
 use Rattle.pf_base.specs.Walks.{HasNode, NoRepeats, end_of}
 use Rattle.pf_core.specs.Steps.{GoesAlong}
 use Rattle.pf_yen.specs.Internal.Adjacency.{AdjacencyLists, is_goal, AdjacencyStep}
 use Rattle.pf_yen.specs.Internal.Classes.{is_in}
+use Rattle.pf_yen.specs.Internal.Filtered.{is_new}
 use Rattle.pf_yen.specs.Internal.Splits.{IsFilteredTo, IsCheapestAlong, HasNoneAlong}
 use Rattle.pf_yen.specs.declared.named.Named.{Named}
 use Rattle.pf_yen.specs.declared.named.Named.TheVariants.{Way, Nothing, Unknown}
-
--- whether no number has to follow this one
-abbrev pub waits : Option (Option ℕ) → Bool
-waits (Some None) = true
-waits (Some (Some y)) = false
-waits None = false
-
--- whether the number is neither the spur nor one before it
-abbrev pub is_new : List (Option ℕ) → ℕ → ℕ → Bool
-is_new onward spur x = waits (slice_get onward x) && not (nat_eq x spur)
 
 -- whether a path may go on to the number from the spur
 abbrev pub is_first : List (Option ℕ) → ℕ → List ℕ → ℕ → Bool

@@ -1,12 +1,8 @@
 -- Steps at reduced costs: what they cost and what remains behind them, less what remains before them.
-use Rattle.std.specs.Prelude.{◌≡◌, ◌+ℤ◌, ◌<◌, ℕ, ℤ, pos, true, List, [], length, map, Contains, Option, Some, slice_get, slice_index_or, Vec, MatchOption, ⊤}
+use Rattle.std.specs.Prelude.{◌≡◌, ◌+ℤ◌, ◌<◌, ℕ, ℤ, pos, true, List, [], length, Contains, Option, Some, slice_get, slice_index_or, MatchOption, ⊤}
 use Rattle.pf_yen.specs.Internal.Adjacency.{AdjacencyLists, is_goal, row_of}
 use Rattle.pf_yen.specs.Internal.Remaining.{AreRemaining}
 use Rattle.pf_yen.specs.declared.reduced.Guide.{Guide}
-
--- the steps that rows hold
-abbrev pub steps_of : {C A : Type 0} → List (Vec (ℕ × C) A) → List (List (ℕ × C))
-steps_of {C} {A} held = map (λ (v : Vec (ℕ × C) A). v.items) held
 
 module _ {C : Type 0} (value : C → ℤ) where
   -- Of the steps from a number from which so much remains, a row has those behind which a cost is known, each at its reduced cost.
@@ -27,7 +23,7 @@ module _ {C : Type 0} (value : C → ℤ) where
 
 -- what remains, and reduced costs where they were found
 abbrev pub Guides : {C A : Type 0} → (C → ℤ) → (ℤ → Type 0) → AdjacencyLists C → Guide C A → Type 0
-Guides value fits k guide = AreRemaining value fits k guide.remaining.items × MatchOption guide.reduced ⊤ (λ rows. AreReduced value k guide.remaining.items (steps_of rows.items))
+Guides value fits k guide = AreRemaining value fits k guide.remaining.items × MatchOption guide.reduced ⊤ (λ rows. AreReduced value k guide.remaining.items rows)
 
 -- the same numbers and goals, with other steps
 abbrev pub with_rows : {C : Type 0} → AdjacencyLists C → List (List (ℕ × C)) → AdjacencyLists C

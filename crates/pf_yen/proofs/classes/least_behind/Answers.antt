@@ -1,5 +1,4 @@
-use Rattle.std.proofs.Common.{◌∙◌, ℕ, refl, ap, inl, take, drop}
-use Rattle.std.specs.Prelude.{Vec}
+use Rattle.std.proofs.Common.{refl, inl, take, drop}
 use Rattle.std.proofs.lemmas.Result.{IfOk-from_err}
 use Rattle.pf_base.proofs.Outcomes.{no_overflow, ok_is_no_error, refused_as}
 use Rattle.pf_yen.proofs.ResultLemmas.{ok_so}
@@ -24,9 +23,9 @@ returns-in-Way g c = record {
   onward = refl;
   spur = refl;
   spent = refl;
-  banned = ap (λ (v : Vec ℕ g.row.A.Denot). v.items) c.replace.ensures.after ∙ c.new.ensures.items;
+  banned = c.take.ensures.nothing;
   least = rw c.in-Way.is at c.in_ok-path.ensures.named;
-  parts = (refl, ap (λ (v : Vec ℕ g.row.A.Denot). v.items) c.replace.ensures.value);
+  parts = (refl, c.take.ensures.taken);
   overflow = λ e. absurd (ok_is_no_error _ _ _ refl e);
   errors = tt;
 }
@@ -37,7 +36,7 @@ returns-in-Nothing g c = record {
   onward = refl;
   spur = refl;
   spent = refl;
-  banned = c.clear.ensures.items;
+  banned = c.take-banned.ensures.nothing;
   least = rw c.in-Nothing.is at c.in_ok-path.ensures.named;
   parts = tt;
   overflow = λ e. absurd (ok_is_no_error _ _ _ refl e);

@@ -11,14 +11,14 @@ use Rattle.pf_yen.proofs.classes.least_of_class.Goals as goal
 pub returns-in-None-clause-least : goal.returns-in-None-clause-least
 returns-in-None-clause-least g c = λ q n.
     let s = c.args.filtered.now in
-    let here : FilteredLists g.row.C.Denot = record { adjacency = s.adjacency.now; onward = s.onward.items; spur = s.spur; banned = s.banned.items } in
+    let here : FilteredLists g.row.C.Denot = record { adjacency = s.adjacency.now; onward = s.onward.items; spur = s.spur; banned = s.banned } in
     let b = rw c.in-None.is at (c.in_ok-answer.ensures.best here (refl, c.requires.whole.inside, c.requires.wide) (filtered_from_zero g.C.Number.value here c.requires.whole)) in
     none_left g.C.Number.value here q n _ c.requires.some b
 
 pub returns-clause-least : goal.returns-clause-least
 returns-clause-least g c = λ q n.
     let s = c.args.filtered.now in
-    let here : FilteredLists g.row.C.Denot = record { adjacency = s.adjacency.now; onward = s.onward.items; spur = s.spur; banned = s.banned.items } in
+    let here : FilteredLists g.row.C.Denot = record { adjacency = s.adjacency.now; onward = s.onward.items; spur = s.spur; banned = s.banned } in
     let b = rw c.in-Some.is at (c.in_ok-answer.ensures.best here (refl, c.requires.whole.inside, c.requires.wide) (filtered_from_zero g.C.Number.value here c.requires.whole)) in
     record {
       clean = best_clean g.C.Number.value here q n _ _ c.requires.some _ _ b;
@@ -30,28 +30,28 @@ pub returns-in-None-clause-errors : goal.returns-in-None-clause-errors
 returns-in-None-clause-errors g c = tt
 
 pub returns-clause-adjacency : goal.returns-clause-adjacency
-returns-clause-adjacency g c = let s = c.args.filtered.now in let here : FilteredLists g.row.C.Denot = record { adjacency = s.adjacency.now; onward = s.onward.items; spur = s.spur; banned = s.banned.items } in sym (ap (λ (h : FilteredLists g.row.C.Denot). h.adjacency) (c.in_ok-answer.ensures.graph here (refl, c.requires.whole.inside, c.requires.wide)).0)
+returns-clause-adjacency g c = let s = c.args.filtered.now in let here : FilteredLists g.row.C.Denot = record { adjacency = s.adjacency.now; onward = s.onward.items; spur = s.spur; banned = s.banned } in sym (ap (λ (h : FilteredLists g.row.C.Denot). h.adjacency) (c.in_ok-answer.ensures.graph here (refl, c.requires.whole.inside, c.requires.wide)).0)
 
 pub returns-clause-onward : goal.returns-clause-onward
-returns-clause-onward g c = let s = c.args.filtered.now in let here : FilteredLists g.row.C.Denot = record { adjacency = s.adjacency.now; onward = s.onward.items; spur = s.spur; banned = s.banned.items } in sym (ap (λ (h : FilteredLists g.row.C.Denot). h.onward) (c.in_ok-answer.ensures.graph here (refl, c.requires.whole.inside, c.requires.wide)).0)
+returns-clause-onward g c = let s = c.args.filtered.now in let here : FilteredLists g.row.C.Denot = record { adjacency = s.adjacency.now; onward = s.onward.items; spur = s.spur; banned = s.banned } in sym (ap (λ (h : FilteredLists g.row.C.Denot). h.onward) (c.in_ok-answer.ensures.graph here (refl, c.requires.whole.inside, c.requires.wide)).0)
 
 pub returns-clause-spur : goal.returns-clause-spur
-returns-clause-spur g c = let s = c.args.filtered.now in let here : FilteredLists g.row.C.Denot = record { adjacency = s.adjacency.now; onward = s.onward.items; spur = s.spur; banned = s.banned.items } in sym (ap (λ (h : FilteredLists g.row.C.Denot). h.spur) (c.in_ok-answer.ensures.graph here (refl, c.requires.whole.inside, c.requires.wide)).0)
+returns-clause-spur g c = let s = c.args.filtered.now in let here : FilteredLists g.row.C.Denot = record { adjacency = s.adjacency.now; onward = s.onward.items; spur = s.spur; banned = s.banned } in sym (ap (λ (h : FilteredLists g.row.C.Denot). h.spur) (c.in_ok-answer.ensures.graph here (refl, c.requires.whole.inside, c.requires.wide)).0)
 
 pub returns-in-None-clause-adjacency : goal.returns-in-None-clause-adjacency
-returns-in-None-clause-adjacency g c = let s = c.args.filtered.now in let here : FilteredLists g.row.C.Denot = record { adjacency = s.adjacency.now; onward = s.onward.items; spur = s.spur; banned = s.banned.items } in sym (ap (λ (h : FilteredLists g.row.C.Denot). h.adjacency) (c.in_ok-answer.ensures.graph here (refl, c.requires.whole.inside, c.requires.wide)).0)
+returns-in-None-clause-adjacency g c = let s = c.args.filtered.now in let here : FilteredLists g.row.C.Denot = record { adjacency = s.adjacency.now; onward = s.onward.items; spur = s.spur; banned = s.banned } in sym (ap (λ (h : FilteredLists g.row.C.Denot). h.adjacency) (c.in_ok-answer.ensures.graph here (refl, c.requires.whole.inside, c.requires.wide)).0)
 
 pub returns-in-None-clause-onward : goal.returns-in-None-clause-onward
-returns-in-None-clause-onward g c = let s = c.args.filtered.now in let here : FilteredLists g.row.C.Denot = record { adjacency = s.adjacency.now; onward = s.onward.items; spur = s.spur; banned = s.banned.items } in sym (ap (λ (h : FilteredLists g.row.C.Denot). h.onward) (c.in_ok-answer.ensures.graph here (refl, c.requires.whole.inside, c.requires.wide)).0)
+returns-in-None-clause-onward g c = let s = c.args.filtered.now in let here : FilteredLists g.row.C.Denot = record { adjacency = s.adjacency.now; onward = s.onward.items; spur = s.spur; banned = s.banned } in sym (ap (λ (h : FilteredLists g.row.C.Denot). h.onward) (c.in_ok-answer.ensures.graph here (refl, c.requires.whole.inside, c.requires.wide)).0)
 
 pub returns-in-None-clause-spur : goal.returns-in-None-clause-spur
-returns-in-None-clause-spur g c = let s = c.args.filtered.now in let here : FilteredLists g.row.C.Denot = record { adjacency = s.adjacency.now; onward = s.onward.items; spur = s.spur; banned = s.banned.items } in sym (ap (λ (h : FilteredLists g.row.C.Denot). h.spur) (c.in_ok-answer.ensures.graph here (refl, c.requires.whole.inside, c.requires.wide)).0)
+returns-in-None-clause-spur g c = let s = c.args.filtered.now in let here : FilteredLists g.row.C.Denot = record { adjacency = s.adjacency.now; onward = s.onward.items; spur = s.spur; banned = s.banned } in sym (ap (λ (h : FilteredLists g.row.C.Denot). h.spur) (c.in_ok-answer.ensures.graph here (refl, c.requires.whole.inside, c.requires.wide)).0)
 
 pub returns-in_err-answer : goal.returns-in_err-answer
 returns-in_err-answer g c = record {
   overflow = λ e.
       let s = c.args.filtered.now in
-      let here : FilteredLists g.row.C.Denot = record { adjacency = s.adjacency.now; onward = s.onward.items; spur = s.spur; banned = s.banned.items } in
+      let here : FilteredLists g.row.C.Denot = record { adjacency = s.adjacency.now; onward = s.onward.items; spur = s.spur; banned = s.banned } in
       let x = c.in_err-answer.ensures.graph here (refl, c.requires.whole.inside, c.requires.wide) in
       let f : c.in_err-answer.field-0.0 ≡ CostOverflow = overflow_kept c.from_residual.result c.in_err-answer.field-0.0 c.from_residual.ensures.1 e in
       let d = c.in_err-answer.ensures.overflow here (refl, c.requires.whole.inside, c.requires.wide) (filtered_from_zero g.C.Number.value here c.requires.whole) (ap Err f) in
@@ -60,9 +60,9 @@ returns-in_err-answer g c = record {
   errors = refused_as _ c.from_residual.result c.in_err-answer.field-0.0 c.from_residual.ensures.1 c.in_err-answer.ensures.errors;
   least = IfOk-from_err _ _ c.from_residual.ensures.0;
   parts = IfOk-from_err _ _ c.from_residual.ensures.0;
-  adjacency = let s = c.args.filtered.now in let here : FilteredLists g.row.C.Denot = record { adjacency = s.adjacency.now; onward = s.onward.items; spur = s.spur; banned = s.banned.items } in sym (ap (λ (h : FilteredLists g.row.C.Denot). h.adjacency) (c.in_err-answer.ensures.graph here (refl, c.requires.whole.inside, c.requires.wide)).0);
-  onward = let s = c.args.filtered.now in let here : FilteredLists g.row.C.Denot = record { adjacency = s.adjacency.now; onward = s.onward.items; spur = s.spur; banned = s.banned.items } in sym (ap (λ (h : FilteredLists g.row.C.Denot). h.onward) (c.in_err-answer.ensures.graph here (refl, c.requires.whole.inside, c.requires.wide)).0);
-  spur = let s = c.args.filtered.now in let here : FilteredLists g.row.C.Denot = record { adjacency = s.adjacency.now; onward = s.onward.items; spur = s.spur; banned = s.banned.items } in sym (ap (λ (h : FilteredLists g.row.C.Denot). h.spur) (c.in_err-answer.ensures.graph here (refl, c.requires.whole.inside, c.requires.wide)).0);
+  adjacency = let s = c.args.filtered.now in let here : FilteredLists g.row.C.Denot = record { adjacency = s.adjacency.now; onward = s.onward.items; spur = s.spur; banned = s.banned } in sym (ap (λ (h : FilteredLists g.row.C.Denot). h.adjacency) (c.in_err-answer.ensures.graph here (refl, c.requires.whole.inside, c.requires.wide)).0);
+  onward = let s = c.args.filtered.now in let here : FilteredLists g.row.C.Denot = record { adjacency = s.adjacency.now; onward = s.onward.items; spur = s.spur; banned = s.banned } in sym (ap (λ (h : FilteredLists g.row.C.Denot). h.onward) (c.in_err-answer.ensures.graph here (refl, c.requires.whole.inside, c.requires.wide)).0);
+  spur = let s = c.args.filtered.now in let here : FilteredLists g.row.C.Denot = record { adjacency = s.adjacency.now; onward = s.onward.items; spur = s.spur; banned = s.banned } in sym (ap (λ (h : FilteredLists g.row.C.Denot). h.spur) (c.in_err-answer.ensures.graph here (refl, c.requires.whole.inside, c.requires.wide)).0);
 }
 
 pub returns-clause-errors : goal.returns-clause-errors

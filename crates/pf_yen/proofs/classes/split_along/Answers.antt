@@ -6,7 +6,7 @@ use Rattle.pf_yen.specs.declared.candidate.Candidate.{Candidate}
 use Rattle.pf_yen.specs.Internal.Classes.{plan_of}
 use Rattle.pf_yen.specs.Internal.Splits.{IsFilteredTo, IsSplitUpTo}
 use Rattle.pf_yen.proofs.SplitLemmas.{filtered_on, spent_on, prefix_of, begins_with, spur_inside, split_first, split_none, split_some, split_last, past_here}
-use Rattle.pf_yen.proofs.classes.split_along.Goals.{in-Some+in_ok-push-2, in_default}
+use Rattle.pf_yen.proofs.classes.split_along.Goals.{in-Some+in_ok-push, in_default}
 use Rattle.std.proofs.lemmas.Result.{IfOk-from_err}
 use Rattle.pf_base.proofs.Outcomes.{no_overflow, ok_is_no_error, overflow_kept, refused_as}
 use Rattle.pf_yen.proofs.classes.split_along.Goals as goal
@@ -20,7 +20,7 @@ places-init g c =
       filtered = r.filtered;
       spent = r.spent;
       split =
-          let b : c.extend_from_slice.new.self.items ≡ c.args.candidate.now.banned.items = c.in_ok-extend_from_slice.ensures.items ∙ ap (λ (v : List ℕ). v ++ c.deref.result.now) r.banned ∙ c.deref.ensures.value in
+          let b : c.add_all.new.self ≡ c.args.candidate.now.banned.items = c.in_ok-add_all.ensures.added ∙ c.deref.ensures.value in
           rw (b, r.empty) (split_first g.C.Number.value c.args.filtered.now.adjacency.now r.whole (plan_of c.args.candidate.now) r.cheapest);
     }
 
@@ -47,7 +47,7 @@ places-preserved g c =
     let n = c.index-next.result.now in
     let at : n ≡ slice_index_or c.args.candidate.now.path.items (c.places.place + 1) n = c.index-next.ensures in
     let inside : c.places.place + 1 < length c.args.candidate.now.path.items = omega (arith, c.len-place-end.ensures, c.places-test.true) in
-    let banned : c.push.new.self.items ≡ s.banned.items ++ slice_index_or c.args.candidate.now.path.items (c.places.place + 1) n ∷ [] = c.in_ok-push.ensures.items ∙ ap (λ (m : ℕ). s.banned.items ++ m ∷ []) at in
+    let banned : c.add.new.self ≡ s.banned ++ slice_index_or c.args.candidate.now.path.items (c.places.place + 1) n ∷ [] = c.in_ok-add.ensures.added ∙ ap (λ (m : ℕ). s.banned ++ m ∷ []) at in
     record {
       adjacency = o.adjacency ∙ e.adjacency ∙ i.adjacency;
       wide = ap length o.onward ∙ length-set _ _ _ ∙ ap length e.onward ∙ i.wide;
@@ -57,16 +57,16 @@ places-preserved g c =
           let on = rw (e.adjacency, i.adjacency, e.spent, e.spur) at o.spent in
           spent_on value c.args.filtered.now.adjacency.now c.requires.whole c.args.candidate.now.path.items (value c.args.candidate.now.cost) c.places.place n s.onward.items s.spur h.clean inside i.filtered s.spent c.go_on.new.self.spent (rw at at on) i.spent;
       split = rw (o.banned, e.banned) (elim c.match-branch-4.branch as (λ _. IsSplitUpTo value c.args.filtered.now.adjacency.now (plan_of c.args.candidate.now) (c.places.place + 1) [] (map plan_of c.match-branch-4.plans.items)) [
-        | in-Some+in_ok-push-2 w ↦
+        | in-Some+in_ok-push w ↦
             let b = rw (w.in-Some.is, c.deref-in-places.ensures.value) at e.least in
             let p = rw w.in-Some.is at e.parts in
-            let m = ap (λ (v : List (Candidate g.row.C.Denot g.row.A.Denot)). map plan_of v) (ap (λ x. x.items) w.plans-is ∙ w.in_ok-push-2.ensures.items) ∙ map-append plan_of c.places.plans.items (w.in-Some.plan ∷ []) in
-            rw m (split_some value c.args.filtered.now.adjacency.now c.requires.whole (plan_of c.args.candidate.now) h c.places.place n s.banned.items (map plan_of c.places.plans.items) i.split inside (plan_of w.in-Some.plan)
+            let m = ap (λ (v : List (Candidate g.row.C.Denot g.row.A.Denot)). map plan_of v) (ap (λ x. x.items) w.plans-is ∙ w.in_ok-push.ensures.items) ∙ map-append plan_of c.places.plans.items (w.in-Some.plan ∷ []) in
+            rw m (split_some value c.args.filtered.now.adjacency.now c.requires.whole (plan_of c.args.candidate.now) h c.places.place n s.banned (map plan_of c.places.plans.items) i.split inside (plan_of w.in-Some.plan)
             (rw (i.adjacency, banned) at b) p.0 (p.1 ∙ banned))
         | in_default w ↦
             let b = rw (w.in_default.is, c.deref-in-places.ensures.value) at e.least in
             let m = ap (λ x. x.items) w.plans-is in
-            rw m (split_none value c.args.filtered.now.adjacency.now c.requires.whole (plan_of c.args.candidate.now) h c.places.place n s.banned.items (map plan_of c.places.plans.items) i.split inside (rw (i.adjacency, banned) at b))
+            rw m (split_none value c.args.filtered.now.adjacency.now c.requires.whole (plan_of c.args.candidate.now) h c.places.place n s.banned (map plan_of c.places.plans.items) i.split inside (rw (i.adjacency, banned) at b))
       ]);
     }
 
@@ -80,9 +80,9 @@ returns-in_err-plan g c = record {
       let n = c.index-next.result.now in
       let at : n ≡ slice_index_or c.args.candidate.now.path.items (c.places.place + 1) n = c.index-next.ensures in
       let inside : c.places.place + 1 < length c.args.candidate.now.path.items = omega (arith, c.len-place-end.ensures, c.places-test.true) in
-      let banned : c.push.new.self.items ≡ s.banned.items ++ slice_index_or c.args.candidate.now.path.items (c.places.place + 1) n ∷ [] = c.in_ok-push.ensures.items ∙ ap (λ (m : ℕ). s.banned.items ++ m ∷ []) at in
+      let banned : c.add.new.self ≡ s.banned ++ slice_index_or c.args.candidate.now.path.items (c.places.place + 1) n ∷ [] = c.in_ok-add.ensures.added ∙ ap (λ (m : ℕ). s.banned ++ m ∷ []) at in
       let exact = g.met.C.Integral.exact_law in
-      past_here value c.args.filtered.now.adjacency.now c.requires.whole (plan_of c.args.candidate.now) c.requires.cheapest c.places.place n s.banned.items (map plan_of c.places.plans.items) i.split inside
+      past_here value c.args.filtered.now.adjacency.now c.requires.whole (plan_of c.args.candidate.now) c.requires.cheapest c.places.place n s.banned (map plan_of c.places.plans.items) i.split inside
       g.C.Number.fits (λ a b d. g.C.Number.between_law a b d exact) (g.met.C.Zero.zero_fits_law exact) c.known.ensures s.onward.items s.spur i.filtered (length c.args.filtered.now.adjacency.now.rows) c.requires.some
       (rw (i.adjacency, banned) at (c.in_err-plan.ensures.overflow (ap Err f)));
   errors = refused_as _ c.from_residual-in_err-plan.result c.in_err-plan.field-0.0 c.from_residual-in_err-plan.ensures.1 c.in_err-plan.ensures.errors;
@@ -93,17 +93,24 @@ pub returns : goal.returns
 returns g c = record {
   split =
       let i = c.places.invariant in
-      split_last g.C.Number.value c.args.filtered.now.adjacency.now c.requires.whole (plan_of c.args.candidate.now) c.requires.cheapest c.places.place c.places.filtered.banned.items (map plan_of c.places.plans.items) i.split
+      split_last g.C.Number.value c.args.filtered.now.adjacency.now c.requires.whole (plan_of c.args.candidate.now) c.requires.cheapest c.places.place c.places.filtered.banned (map plan_of c.places.plans.items) i.split
       (omega (arith, c.len-place-end.ensures, c.places-test.false));
   errors = tt;
   overflow = λ e. absurd (ok_is_no_error _ _ _ refl e);
 }
 
-pub returns-in_err-extend_from_slice : goal.returns-in_err-extend_from_slice
-returns-in_err-extend_from_slice g c = record {
+pub returns-in_err-add_all : goal.returns-in_err-add_all
+returns-in_err-add_all g c = record {
   split = IfOk-from_err _ _ c.from_residual.ensures.0;
-  errors = refused_as _ c.from_residual.result OutOfMemory c.from_residual.ensures.1 (inl refl);
-  overflow = λ e. absurd (no_overflow c.from_residual.result OutOfMemory c.from_residual.ensures.1 refl e);
+  errors = refused_as _ c.from_residual.result c.in_err-add_all.field-0.0 c.from_residual.ensures.1 (inl c.in_err-add_all.ensures.refused);
+  overflow = λ e. absurd (no_overflow c.from_residual.result c.in_err-add_all.field-0.0 c.from_residual.ensures.1 c.in_err-add_all.ensures.refused e);
+}
+
+pub returns-in_err-add : goal.returns-in_err-add
+returns-in_err-add g c = record {
+  split = IfOk-from_err _ _ c.from_residual-in_err-add.ensures.0;
+  errors = refused_as _ c.from_residual-in_err-add.result c.in_err-add.field-0.0 c.from_residual-in_err-add.ensures.1 (inl c.in_err-add.ensures.refused);
+  overflow = λ e. absurd (no_overflow c.from_residual-in_err-add.result c.in_err-add.field-0.0 c.from_residual-in_err-add.ensures.1 c.in_err-add.ensures.refused e);
 }
 
 pub returns-in_err-push : goal.returns-in_err-push
@@ -111,13 +118,6 @@ returns-in_err-push g c = record {
   split = IfOk-from_err _ _ c.from_residual-in_err-push.ensures.0;
   errors = refused_as _ c.from_residual-in_err-push.result OutOfMemory c.from_residual-in_err-push.ensures.1 (inl refl);
   overflow = λ e. absurd (no_overflow c.from_residual-in_err-push.result OutOfMemory c.from_residual-in_err-push.ensures.1 refl e);
-}
-
-pub returns-in_err-push-2 : goal.returns-in_err-push-2
-returns-in_err-push-2 g c = record {
-  split = IfOk-from_err _ _ c.from_residual-in_err-push-2.ensures.0;
-  errors = refused_as _ c.from_residual-in_err-push-2.result OutOfMemory c.from_residual-in_err-push-2.ensures.1 (inl refl);
-  overflow = λ e. absurd (no_overflow c.from_residual-in_err-push-2.result OutOfMemory c.from_residual-in_err-push-2.ensures.1 refl e);
 }
 
 pub least_behind-requires-clause-whole : goal.least_behind-requires-clause-whole

@@ -10,5 +10,5 @@ invariant-places g l = record {
   wide : length l.filtered.onward.items ≡ length l.fn.filtered.adjacency.now.rows;
   filtered : IsFilteredTo l.fn.filtered.adjacency.now l.filtered.onward.items l.filtered.spur (take l.place (drop 1 l.fn.candidate.path.items));
   spent : IsSpent g.C.Number.value l.fn.filtered.adjacency.now (take l.place (drop 1 l.fn.candidate.path.items)) l.filtered.spent;
-  split : IsSplitUpTo g.C.Number.value l.fn.filtered.adjacency.now (plan_of l.fn.candidate) l.place l.filtered.banned.items (map plan_of l.plans.items);
+  split : IsSplitUpTo g.C.Number.value l.fn.filtered.adjacency.now (plan_of l.fn.candidate) l.place l.filtered.banned (map plan_of l.plans.items);
 }

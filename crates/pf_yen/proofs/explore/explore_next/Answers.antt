@@ -80,7 +80,7 @@ returns g c = record {
             )
         | else-not-goal w ↦
             let t : c.is_goal-goal.result ≡ true = w.if-not-goal.false in
-            rw (w.graph-is, w.row-is, c.new-row.ensures.items) (
+            rw (w.graph-is, w.row-is, c.clear.ensures.items) (
               l1,
               (
                 (λ z s. let s0 = b.grows.back n z c.requires.inside s in (lists_none value step passes _ z (sym (told z s0) ∙ t), told z s0)),
@@ -89,7 +89,7 @@ returns g c = record {
             )
       ] in
       elim (ok_or_err c.add.result c.add.ensures.added c.add.ensures.kept) as (λ _. IsLearned value step passes (stands c.if-not-goal.graph) (found c.if-not-goal.graph) c.add.new.self) [
-        | inl a ↦ rw a (learned_add value step passes (found c.if-not-goal.graph) (stands c.if-not-goal.graph) k c.if-not-goal.row.items c.is_goal-goal.result p.0 p.1.1.1 p.1.0 p.1.1.0)
+        | inl a ↦ rw (a, c.deref.ensures.value) (learned_add value step passes (found c.if-not-goal.graph) (stands c.if-not-goal.graph) k c.if-not-goal.row.items c.is_goal-goal.result p.0 p.1.1.1 p.1.0 p.1.1.0)
         | inr a ↦ rw a p.0
       ];
   grows =

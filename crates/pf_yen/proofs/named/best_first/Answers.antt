@@ -33,4 +33,4 @@ steps-preserved g c =
 pub returns : goal.returns
 returns g c =
     let s = c.args.filtered.now in
-    subst (λ (row : List (ℕ × g.row.C.Denot)). IsBestFirst g.C.Number.value (is_first s.onward.items s.spur s.banned.items) c.args.costs.now row c.steps.best) (take_all _ _ c.steps-test.false ∙ c.steps.invariant.is) c.steps.invariant.best
+    subst (λ (row : List (ℕ × g.row.C.Denot)). IsBestFirst g.C.Number.value (is_first s.onward.items s.spur s.banned) c.args.costs.now row c.steps.best) (take_all _ _ c.steps-test.false ∙ c.steps.invariant.is) c.steps.invariant.best

@@ -7,7 +7,7 @@ use Rattle.pf_yen.proofs.named.better.Goals as goal
 pub returns-in_default : goal.returns-in_default
 returns-in_default g c = λ steps more keeps there from b.
     let s = c.args.filtered.now in
-    best_kept g.C.Number.value (is_first s.onward.items s.spur s.banned.items) c.args.costs.now steps more c.args.next c.args.price keeps there from c.args.best (λ y k. absurd (rw c.in_default.is at c.cost_at.ensures y k)) b
+    best_kept g.C.Number.value (is_first s.onward.items s.spur s.banned) c.args.costs.now steps more c.args.next c.args.price keeps there from c.args.best (λ y k. absurd (rw c.in_default.is at c.cost_at.ensures y k)) b
 
 pub returns-in_default-checked_add : goal.returns-in_default-checked_add
 returns-in_default-checked_add g c =
@@ -20,14 +20,14 @@ returns-then-may_be_first g c = λ steps more keeps there from b.
     let s = c.args.filtered.now in
     let known = rw c.in-Some.is at c.cost_at.ensures in
     let adds = g.met.C.CheckedAdd.checked_add_law c.args.price c.in-Some.rest (Some c.in-Some-checked_add.sum) (rw c.in-Some-checked_add.is at c.checked_add.ensures) in
-    best_taken g.C.Number.value (is_first s.onward.items s.spur s.banned.items) c.args.costs.now steps more c.args.next c.args.price keeps there from c.args.best c.in-Some.rest c.in-Some-checked_add.sum
+    best_taken g.C.Number.value (is_first s.onward.items s.spur s.banned) c.args.costs.now steps more c.args.next c.args.price keeps there from c.args.best c.in-Some.rest c.in-Some-checked_add.sum
     (sym c.may_be_first.ensures ∙ c.if-may_be_first.true) known adds.1 (rw c.if-is_better.true at c.is_better.ensures) b
 
 pub returns-else-is_better : goal.returns-else-is_better
 returns-else-is_better g c = λ steps more keeps there from b.
     let s = c.args.filtered.now in
     let value = g.C.Number.value in
-    let first = is_first s.onward.items s.spur s.banned.items in
+    let first = is_first s.onward.items s.spur s.banned in
     let known = rw c.in-Some.is at c.cost_at.ensures in
     let adds = g.met.C.CheckedAdd.checked_add_law c.args.price c.in-Some.rest (Some c.in-Some-checked_add.sum) (rw c.in-Some-checked_add.is at c.checked_add.ensures) in
     elim c.else-is_better.branch as (λ _. IsBestFirst value first c.args.costs.now more c.args.best) [

@@ -1,4 +1,4 @@
-use Rattle.std.proofs.Common.{◌∙◌, refl, sym, ap, subst, ℕ, List}
+use Rattle.std.proofs.Common.{◌∙◌, refl, sym, ap, subst, ℕ, List, true≢false}
 use Rattle.std.specs.Prelude.{◌≤ℤ◌}
 use Rattle.std.specs.Ordering.{is_some_and, is_lt}
 use Rattle.std.proofs.lemmas.Result.{IfOk-from_err}
@@ -23,8 +23,8 @@ steps-preserved g c =
     let n = rw c.in-Some.is at c.step_on.ensures in
     record {
       inside = c.requires.whole.inside c.steps.number c.in-Some.step.0 n.price n.edge;
-      way = λ q total w. (subst (λ (v : List ℕ). IsWaySoFar value k s.onward.items s.spur q s.banned.items c.args.costs.now total v c.in-Some.step.0 c.in-Some.step.1) (sym c.in_ok-push-2.ensures.items)
-          (way_on value k c.requires.whole c.args.costs.now s.onward.items s.spur q s.banned.items total c.steps.path.items c.steps.number c.in-Some.step.0 c.steps.here c.in-Some.step.1 n (c.steps.invariant.way q total w)));
+      way = λ q total w. (subst (λ (v : List ℕ). IsWaySoFar value k s.onward.items s.spur q s.banned c.args.costs.now total v c.in-Some.step.0 c.in-Some.step.1) (sym c.in_ok-push-2.ensures.items)
+          (way_on value k c.requires.whole c.args.costs.now s.onward.items s.spur q s.banned total c.steps.path.items c.steps.number c.in-Some.step.0 c.steps.here c.in-Some.step.1 n (c.steps.invariant.way q total w)));
     }
 
 pub returns-clause-goal : goal.returns-clause-goal
@@ -54,3 +54,6 @@ returns-in_err-push-2 g c = record {
   goal = IfOk-from_err _ _ c.from_residual-in_err-push-2.ensures.0;
   refused = refused_as _ c.from_residual-in_err-push-2.result OutOfMemory c.from_residual-in_err-push-2.ensures.1 refl;
 }
+
+pub returns-in_default : goal.returns-in_default
+returns-in_default g c = record { goal = λ t. absurd (true≢false (sym t)); refused = tt }

@@ -15,7 +15,7 @@ pub returns-in_default-best_first : goal.returns-in_default-best_first
 returns-in_default-best_first g c =
     let s = c.args.filtered.now in
     let none = rw c.in_default-best_first.is at c.best_first.ensures in
-    record { named = none_named g.C.Number.value g.C.Number.fits s.adjacency.now c.requires.whole c.in-Some.costs.now c.in-Some.ensures s.onward.items s.spur (take c.args.spur (drop 1 c.args.path.now)) s.banned.items c.requires.wide s.spent c.requires.prefix none; refused = tt }
+    record { named = none_named g.C.Number.value g.C.Number.fits s.adjacency.now c.requires.whole c.in-Some.costs.now c.in-Some.ensures s.onward.items s.spur (take c.args.spur (drop 1 c.args.path.now)) s.banned c.requires.wide s.spent c.requires.prefix none; refused = tt }
 
 pub go_to_goal-requires-clause-inside : goal.go_to_goal-requires-clause-inside
 go_to_goal-requires-clause-inside g c =
@@ -37,10 +37,10 @@ returns-then-branch g c =
     let t = rw c.in-Some-total_of.is at c.total_of.ensures in
     let known = rw c.in-Some-cost_at.is at c.cost_at.ensures in
     let begin : (c.new-numbers.result.items ++ take (c.args.spur + 1) c.args.path.now) ++ first ∷ [] ≡ (0 ∷ q) ++ first ∷ [] = ap (λ (v : List ℕ). v ++ first ∷ []) (ap (λ (v : List ℕ). v ++ take (c.args.spur + 1) c.args.path.now) c.new-numbers.ensures.items ∙ c.requires.begins) in
-    let start = way_start value g.C.Number.fits s.adjacency.now c.requires.whole c.in-Some.costs.now r s.onward.items s.spur q s.banned.items c.requires.wide s.spent c.requires.prefix first sum best t.0 total t.1 t.2 rest ((c.new-numbers.result.items ++ take (c.args.spur + 1) c.args.path.now) ++ first ∷ []) known begin in
+    let start = way_start value g.C.Number.fits s.adjacency.now c.requires.whole c.in-Some.costs.now r s.onward.items s.spur q s.banned c.requires.wide s.spent c.requires.prefix first sum best t.0 total t.1 t.2 rest ((c.new-numbers.result.items ++ take (c.args.spur + 1) c.args.path.now) ++ first ∷ []) known begin in
     let w = c.in_ok-go_to_goal.ensures.goal c.if-branch.true q (value total) start in
     record {
-      named = subst (λ (v : List ℕ). IsCheapestAlong value s.adjacency.now q s.banned.items v total) (sym (c.in_ok-path.ensures.same ∙ c.deref.ensures.value)) (way_found value g.C.Number.fits s.adjacency.now c.requires.whole c.in-Some.costs.now r s.onward.items s.spur q s.banned.items c.requires.wide s.spent c.requires.prefix first sum best t.0 total t.1 t.2 g.C.Zero.zero w.1 c.go_to_goal.new.path.items w.0
+      named = subst (λ (v : List ℕ). IsCheapestAlong value s.adjacency.now q s.banned v total) (sym (c.in_ok-path.ensures.same ∙ c.deref.ensures.value)) (way_found value g.C.Number.fits s.adjacency.now c.requires.whole c.in-Some.costs.now r s.onward.items s.spur q s.banned c.requires.wide s.spent c.requires.prefix first sum best t.0 total t.1 t.2 g.C.Zero.zero w.1 c.go_to_goal.new.path.items w.0
           (g.met.C.Zero.zero_law g.met.C.Integral.exact_law) w.4 w.3 w.2);
       refused = tt;
     }

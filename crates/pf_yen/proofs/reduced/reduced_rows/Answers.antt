@@ -2,8 +2,10 @@ use Rattle.std.proofs.Common.{◌≡◌, ◌<◌, ◌∙◌, Some, arith, ap, le
 use Rattle.std.specs.Prelude.{pos, slice_get}
 use Rattle.pf_base.proofs.ListLemmas.{at_place}
 use Rattle.pf_yen.specs.Internal.Adjacency.{is_goal}
-use Rattle.pf_yen.proofs.ReducedLemmas.{row_more, held_more}
+use Rattle.pf_yen.proofs.ReducedLemmas.{row_more}
 use Rattle.pf_yen.proofs.reduced.reduced_rows.Goals.{else-is_goal-via-then-is_goal+else-not-is_nothing, else-is_goal-via-else-is_goal}
+use Rattle.std.proofs.lemmas.Result.{IfOk-from_err}
+use Rattle.pf_base.proofs.Outcomes.{refused_as}
 use Rattle.pf_yen.proofs.reduced.reduced_rows.Goals as goal
 
 pub numbers-preserved : goal.numbers-preserved
@@ -19,9 +21,8 @@ numbers-preserved g c =
           (z.0, at_place costs n w.index-costs-number.result w.index-costs-number.result inside (sym w.index-costs-number.is) ∙ ap Some z.1, z.2)
       | else-is_goal-via-else-is_goal w ↦ absurd (true≢false (sym t ∙ sym c.is_goal.ensures ∙ w.if-is_goal.false))
     ] in
-    let reduced = rw c.row-row.ensures at (rw c.in-Some.is at c.in_ok-reduced.ensures.reduced) in
-    rw (held_more c.numbers.rows.items c.in-Some.reduced c.push.new.self.items c.in_ok-push.ensures.items)
-    (row_more value costs k n _ c.numbers.invariant inside c.index-costs-number-in-numbers.result c.index-costs-number-in-numbers.is c.in-Some.reduced.items reduced free)
+    let reduced = rw c.row.ensures at (c.in_ok-reduce_row.ensures.reduced c.if-not-branch.false) in
+    rw (c.in_ok-add.ensures.added, c.deref.ensures.value) (row_more value costs k n _ c.numbers.invariant inside c.index-costs-number-in-numbers.result c.index-costs-number-in-numbers.is c.reduce_row.new.reduced.items reduced free)
 
 pub returns-clause-reduced : goal.returns-clause-reduced
 returns-clause-reduced g c =
@@ -32,3 +33,21 @@ returns-clause-reduced g c =
       each = λ a here h. i.each a here (omega (arith, h, end));
       free = λ a h. i.free a (omega (arith, h, end));
     }
+
+pub returns-then-not-is_nothing : goal.returns-then-not-is_nothing
+returns-then-not-is_nothing g c = record { reduced = tt; refused = tt }
+
+pub returns-in_err-reduce_row : goal.returns-in_err-reduce_row
+returns-in_err-reduce_row g c = record {
+  reduced = IfOk-from_err _ _ c.from_residual.ensures.0;
+  refused = refused_as _ c.from_residual.result c.in_err-reduce_row.field-0.0 c.from_residual.ensures.1 c.in_err-reduce_row.ensures.refused;
+}
+
+pub returns-then-not-branch : goal.returns-then-not-branch
+returns-then-not-branch g c = record { reduced = tt; refused = tt }
+
+pub returns-in_err-add : goal.returns-in_err-add
+returns-in_err-add g c = record {
+  reduced = IfOk-from_err _ _ c.from_residual-in_err-add.ensures.0;
+  refused = refused_as _ c.from_residual-in_err-add.result c.in_err-add.field-0.0 c.from_residual-in_err-add.ensures.1 c.in_err-add.ensures.refused;
+}

@@ -36,7 +36,7 @@ returns-in_err-self g c = record {
   overflow = λ x.
       let e = c.in_ok-filtered.ensures in
       let s = c.in_ok-filtered.filtered in
-      let here : FilteredLists g.row.C.Denot = record { adjacency = s.adjacency.now; onward = s.onward.items; spur = s.spur; banned = s.banned.items } in
+      let here : FilteredLists g.row.C.Denot = record { adjacency = s.adjacency.now; onward = s.onward.items; spur = s.spur; banned = s.banned } in
       let f : c.in_err-self.field-0.0 ≡ CostOverflow = overflow_kept c.from_residual-in_err-self.result c.in_err-self.field-0.0 c.from_residual-in_err-self.ensures.1 x in
       subst (λ (k : AdjacencyLists g.row.C.Denot). NumberedOverflows (AdjacencyStep g.C.Number.value k) (is_goal k) (StandsForItself (length k.rows) 0) (StandsForItself (length k.rows)) g.C.Number.fits) e.graph.0
       (all_overflows g.C.Number.value here (length c.args.adjacency.now.rows) e.onward e.graph.2 g.C.Number.fits (length s.adjacency.now.rows) (c.in_err-self.ensures.overflow (ap Err f)));

@@ -1,13 +1,15 @@
-use Rattle.pf_yen.proofs.FilteredLemmas.{allows_onward, allows_elsewhere, allows_at_spur}
+use Rattle.pf_yen.specs.Internal.Filtered.{graph_filtered_by}
+use Rattle.pf_yen.proofs.FilteredLemmas.{allows_onward, allows_closed, allows_away, allows_at_spur}
 use Rattle.pf_yen.proofs.filtered.FilteredGraph.allows.Goals as goal
 
 pub returns-in-Some : goal.returns-in-Some
-returns-in-Some g c = let s = c.args.self.now in allows_onward (record { adjacency = s.adjacency.now; onward = s.onward.items; spur = s.spur; banned = s.banned.items }) c.args.from c.args.to c.index.result.now c.requires c.index.ensures c.in-Some.only c.in-Some.is
+returns-in-Some g c = allows_onward (graph_filtered_by c.args.self.now) c.args.from c.args.to c.index.result.now c.requires.0 c.index.ensures c.in-Some.only c.in-Some.is
 
 pub returns-then-from-self : goal.returns-then-from-self
-returns-then-from-self g c = let s = c.args.self.now in allows_elsewhere (record { adjacency = s.adjacency.now; onward = s.onward.items; spur = s.spur; banned = s.banned.items }) c.args.from c.args.to c.index.result.now c.requires c.index.ensures c.in-None.is c.if-from-self.true
+returns-then-from-self g c = let i = c.index-in-None in allows_away (graph_filtered_by c.args.self.now) c.args.from c.args.to c.index.result.now c.requires.0 c.index.ensures c.in-None.is i.result.now c.requires.1 i.ensures c.is_none.result c.is_none.ensures c.if-is_none.true c.if-from-self.true
 
 pub returns-else-from-self : goal.returns-else-from-self
-returns-else-from-self g c =
-    let s = c.args.self.now in
-    allows_at_spur (record { adjacency = s.adjacency.now; onward = s.onward.items; spur = s.spur; banned = s.banned.items }) c.args.from c.args.to c.index.result.now c.requires c.index.ensures c.in-None.is c.if-from-self.false c.contains.result (rw c.deref.ensures.value at c.contains.ensures.value)
+returns-else-from-self g c = let i = c.index-in-None in allows_at_spur (graph_filtered_by c.args.self.now) c.args.from c.args.to c.index.result.now c.requires.0 c.index.ensures c.in-None.is i.result.now c.requires.1 i.ensures c.is_none.result c.is_none.ensures c.if-is_none.true c.if-from-self.false c.has.result c.has.ensures
+
+pub returns-else-is_none : goal.returns-else-is_none
+returns-else-is_none g c = let i = c.index-in-None in allows_closed (graph_filtered_by c.args.self.now) c.args.from c.args.to c.index.result.now c.requires.0 c.index.ensures c.in-None.is i.result.now c.requires.1 i.ensures c.is_none.result c.is_none.ensures c.if-is_none.false

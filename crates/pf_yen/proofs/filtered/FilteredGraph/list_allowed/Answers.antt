@@ -4,6 +4,7 @@ use Rattle.std.proofs.lemmas.List.{take_all}
 use Rattle.std.proofs.lemmas.Result.{IfOk-from_err}
 use Rattle.pf_yen.specs.Internal.Filtered.{FilteredLists, allows}
 use Rattle.pf_yen.proofs.FilteredLemmas.{passes_too, left_out}
+use Rattle.pf_base.proofs.ListLemmas.{Contains-here}
 use Rattle.pf_base.proofs.Outcomes.{refused_as}
 use Rattle.pf_yen.proofs.filtered.FilteredGraph.list_allowed.Goals.{then-allows+in_ok-add, else-allows}
 use Rattle.pf_yen.proofs.filtered.FilteredGraph.list_allowed.Goals as goal
@@ -12,12 +13,12 @@ pub steps-init : goal.steps-init
 steps-init g c = c.requires.empty
 
 pub allows-requires : goal.allows-requires
-allows-requires g c = c.requires.inside
+allows-requires g c = let item = c.steps-item.result in (c.requires.inside, c.requires.ends item.0 item.1 (Contains-here c.args.steps.now c.steps.next-index item c.steps-test.true c.steps-item.is))
 
 pub steps-preserved : goal.steps-preserved
 steps-preserved g c =
     let s = c.args.self.now in
-    let filtered_lists : FilteredLists g.row.C.Denot = record { adjacency = s.adjacency.now; onward = s.onward.items; spur = s.spur; banned = s.banned.items } in
+    let filtered_lists : FilteredLists g.row.C.Denot = record { adjacency = s.adjacency.now; onward = s.onward.items; spur = s.spur; banned = s.banned } in
     let steps = c.args.steps.now in
     let i = c.steps.next-index in
     let item = c.steps-item.result in
@@ -36,7 +37,7 @@ pub returns : goal.returns
 returns g c = record {
   listed =
       let s = c.args.self.now in
-      let filtered_lists : FilteredLists g.row.C.Denot = record { adjacency = s.adjacency.now; onward = s.onward.items; spur = s.spur; banned = s.banned.items } in
+      let filtered_lists : FilteredLists g.row.C.Denot = record { adjacency = s.adjacency.now; onward = s.onward.items; spur = s.spur; banned = s.banned } in
       subst (λ (steps : List (ℕ × g.row.C.Denot)). g.R.Row.holds c.steps.row (filter (λ (e : ℕ × g.row.C.Denot). allows filtered_lists c.args.node e.0) steps)) (take_all _ _ c.steps-test.false) c.steps.invariant;
   refused = tt;
 }

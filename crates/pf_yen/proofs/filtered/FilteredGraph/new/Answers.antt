@@ -5,16 +5,24 @@ use Rattle.pf_base.proofs.Outcomes.{refused_as}
 use Rattle.pf_yen.proofs.NamedLemmas.{nothing_spent}
 use Rattle.pf_yen.proofs.filtered.FilteredGraph.new.Goals as goal
 
-pub returns-in_err-resize : goal.returns-in_err-resize
-returns-in_err-resize g c = record {
+pub returns-in_err-banned : goal.returns-in_err-banned
+returns-in_err-banned g c = record {
   graph = IfOk-from_err _ _ c.from_residual.ensures.0;
   onward = IfOk-from_err _ _ c.from_residual.ensures.0;
   spent = IfOk-from_err _ _ c.from_residual.ensures.0;
-  refused = refused_as _ c.from_residual.result OutOfMemory c.from_residual.ensures.1 refl;
+  refused = refused_as _ c.from_residual.result c.in_err-banned.field-0.0 c.from_residual.ensures.1 c.in_err-banned.ensures.refused;
+}
+
+pub returns-in_err-resize : goal.returns-in_err-resize
+returns-in_err-resize g c = record {
+  graph = IfOk-from_err _ _ c.from_residual-in_err-resize.ensures.0;
+  onward = IfOk-from_err _ _ c.from_residual-in_err-resize.ensures.0;
+  spent = IfOk-from_err _ _ c.from_residual-in_err-resize.ensures.0;
+  refused = refused_as _ c.from_residual-in_err-resize.result OutOfMemory c.from_residual-in_err-resize.ensures.1 refl;
 }
 
 pub returns-clause-graph : goal.returns-clause-graph
-returns-clause-graph g c = (refl, refl, c.new.ensures.items)
+returns-clause-graph g c = (refl, refl, c.in_ok-banned.ensures.nothing)
 
 pub returns-clause-spent : goal.returns-clause-spent
 returns-clause-spent g c =

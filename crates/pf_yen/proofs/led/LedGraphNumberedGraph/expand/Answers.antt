@@ -1,28 +1,35 @@
-use Rattle.std.proofs.Common.{◌≡◌, ◌∙◌, ℕ, List, length, refl, ap, subst, sym}
-use Rattle.std.specs.Prelude.{OnOk, Vec, filter}
+use Rattle.std.proofs.Common.{◌<◌, ℕ, List, length, refl, subst, sym}
+use Rattle.std.specs.Prelude.{Contains, OnOk, filter}
 use Rattle.pf_base.proofs.Outcomes.{on_ok}
 use Rattle.pf_core.specs.Numbered.{ListsSteps}
-use Rattle.pf_yen.specs.Internal.Adjacency.{row_of}
 use Rattle.pf_yen.specs.Internal.Filtered.{FilteredLists, FilteredStep, StandsForItself, allows, filtered_row}
 use Rattle.pf_yen.specs.Internal.Led.{graph_led_by}
-use Rattle.pf_yen.specs.Internal.Reduced.{steps_of}
 use Rattle.pf_yen.proofs.FilteredLemmas.{row_inside, lists_steps, row_stands, row_in_order, none_between}
-use Rattle.pf_yen.proofs.ReducedLemmas.{held_led}
 use Rattle.pf_yen.proofs.led.LedGraphNumberedGraph.expand.Goals as goal
+
+pub list_allowed-requires : goal.list_allowed-requires
+list_allowed-requires g c =
+    let r = c.requires.graph in
+    let s = c.args.self.now in
+    let here : FilteredLists g.row.C.Denot = graph_led_by s in
+    record {
+      inside = subst (λ (n : ℕ). c.args.node < n) (sym r.1.2) c.requires.inside;
+      ends = λ b d h. subst (λ (n : ℕ). b < n) (sym r.1.2) ((rw r.1.0 at r.1.1) c.args.node b d (subst (λ (v : List (ℕ × g.row.C.Denot)). Contains v (b, d)) c.row.ensures h));
+      empty = c.reset.ensures;
+    }
 
 pub returns-clause-listed : goal.returns-clause-listed
 returns-clause-listed g c =
     let r = c.requires.graph in
     let s = c.args.self.now in
     let here : FilteredLists g.row.C.Denot = graph_led_by s in
-    let row : c.deref.result.now ≡ row_of here.adjacency c.args.node = c.deref.ensures.value ∙ ap (λ (v : Vec (ℕ × g.row.C.Denot) g.row.A.Denot). v.items) (sym c.index-self-node.is) ∙ held_led s.rows.now c.args.node c.index-self-node.result c.requires.inside c.index-self-node.is in
-    let listed = subst (λ (steps : List (ℕ × g.row.C.Denot)). OnOk c.list_allowed.result (g.R.Row.holds c.list_allowed.new.row (filter (λ (e : ℕ × g.row.C.Denot). allows here c.args.node e.0) steps))) row c.list_allowed.ensures.listed in
+    let listed = subst (λ (steps : List (ℕ × g.row.C.Denot)). OnOk c.list_allowed.result (g.R.Row.holds c.list_allowed.new.row (filter (λ (e : ℕ × g.row.C.Denot). allows here c.args.node e.0) steps))) c.row.ensures c.list_allowed.ensures.listed in
     on_ok c.list_allowed.result listed (λ h. (
       filtered_row here c.args.node,
       h,
       row_inside g.C.Number.value here (rw r.1.0 at r.1.1) c.args.node,
       (λ j low high. absurd (none_between _ _ _ low high refl)),
-      λ g' e x t. subst (λ (k : FilteredLists g.row.C.Denot). ListsSteps g.C.Number.value (FilteredStep g.C.Number.value k) (StandsForItself (length (steps_of s.rows.now))) x (filtered_row here c.args.node)) (sym e.0)
+      λ g' e x t. subst (λ (k : FilteredLists g.row.C.Denot). ListsSteps g.C.Number.value (FilteredStep g.C.Number.value k) (StandsForItself (length s.rows.now)) x (filtered_row here c.args.node)) (sym e.0)
           (lists_steps g.C.Number.value here (rw r.1.0 at r.1.1) c.args.node x t),
     ))
 
@@ -31,8 +38,7 @@ returns-clause-placed g c =
     let r = c.requires.graph in
     let s = c.args.self.now in
     let here : FilteredLists g.row.C.Denot = graph_led_by s in
-    let row : c.deref.result.now ≡ row_of here.adjacency c.args.node = c.deref.ensures.value ∙ ap (λ (v : Vec (ℕ × g.row.C.Denot) g.row.A.Denot). v.items) (sym c.index-self-node.is) ∙ held_led s.rows.now c.args.node c.index-self-node.result c.requires.inside c.index-self-node.is in
-    let listed = subst (λ (steps : List (ℕ × g.row.C.Denot)). OnOk c.list_allowed.result (g.R.Row.holds c.list_allowed.new.row (filter (λ (e : ℕ × g.row.C.Denot). allows here c.args.node e.0) steps))) row c.list_allowed.ensures.listed in
+    let listed = subst (λ (steps : List (ℕ × g.row.C.Denot)). OnOk c.list_allowed.result (g.R.Row.holds c.list_allowed.new.row (filter (λ (e : ℕ × g.row.C.Denot). allows here c.args.node e.0) steps))) c.row.ensures c.list_allowed.ensures.listed in
     on_ok c.list_allowed.result listed (λ h. (filtered_row here c.args.node, h, λ g' e x t. rw e.0 (row_stands g.C.Number.value here (rw r.1.0 at r.1.1) c.args.node x t.0)))
 
 pub returns-clause-ordered : goal.returns-clause-ordered

@@ -2,7 +2,7 @@ use Rattle.std.proofs.Common.{◌≡◌, refl, true}
 use Rattle.pf_base.proofs.Outcomes.{on_any, on_err}
 use Rattle.pf_core.specs.Nodes.{TestedGraph}
 use Rattle.pf_yen.specs.Internal.PathPlans.{path_plans}
-use Rattle.pf_yen.proofs.WalkLemmas.{graph_of, learned_on, begun_known, given_known, not_ended_given}
+use Rattle.pf_yen.proofs.WalkLemmas.{graph_of, learned_on, begun_known, given_known, not_ended_given, not_ended_new}
 use Rattle.pf_yen.proofs.directed.yen.YenPaths.explore_graph.Goals as goal
 
 pub explore-requires : goal.explore-requires
@@ -48,3 +48,23 @@ returns-then-self-2 g c =
       bar = refl;
       refused = tt;
     }
+
+pub returns-clause-ended : goal.returns-clause-ended
+returns-clause-ended g c =
+    let inside = c.self.inside in
+    λ e. absurd (not_ended_new (path_plans inside.graph.discovery.nodes.keys inside.adjacency inside.plans) c.if-self-2.false (rw (← c.self.view_is) at e))
+
+pub returns-clause-open : goal.returns-clause-open
+returns-clause-open g c = on_err c.explore.result (not_ended_new (path_plans c.explore.new.graph.discovery.nodes.keys c.explore.new.adjacency c.self.inside.plans) c.if-self-2.false)
+
+pub returns-clause-given : goal.returns-clause-given
+returns-clause-given g c = rw (← c.self.view_is) refl
+
+pub returns-clause-same : goal.returns-clause-same
+returns-clause-same g c = rw (← c.self.view_is) refl
+
+pub returns-clause-bar : goal.returns-clause-bar
+returns-clause-bar g c = rw (← c.self.view_is) refl
+
+pub returns-clause-refused : goal.returns-clause-refused
+returns-clause-refused g c = c.explore.ensures.refused

@@ -1,0 +1,15 @@
+use Rattle.std.proofs.lemmas.Result.{IfOk-from_err}
+use Rattle.pf_base.proofs.Outcomes.{refused_as}
+use Rattle.pf_yen.proofs.remaining.remaining_costs.Goals as goal
+
+pub returns-in_err-costs : goal.returns-in_err-costs
+returns-in_err-costs g c = record {
+  known = IfOk-from_err _ _ c.from_residual.ensures.0;
+  refused = refused_as _ c.from_residual.result c.in_err-costs.field-0.0 c.from_residual.ensures.1 c.in_err-costs.ensures.refused;
+}
+
+pub returns-in_default : goal.returns-in_default
+returns-in_default g c = record { known = tt; refused = tt }
+
+pub returns-else-are_settled : goal.returns-else-are_settled
+returns-else-are_settled g c = record { known = tt; refused = tt }
