@@ -11,6 +11,13 @@ module _ {N : Type 0} {eq : N → N → Bool} (laws : IsEquivalence eq) (names :
   abbrev pub Zip : List ℕ → List N → Type 0
   Zip = AllZip (Stands laws names)
 
+  -- numbers do not repeat where their names do not
+  pub repeats_back : (w : List ℕ) (v : List N) → Zip w v → NoRepeats eq v → NoRepeats nat_eq w
+  repeats_back [] [] z n = tt
+  repeats_back [] (y ∷ v) z n = absurd z
+  repeats_back (j ∷ w) [] z n = absurd z
+  repeats_back (j ∷ w) (y ∷ v) z n = ((λ h. n.0 (node_out laws names distinct w v j y z.1 z.0 h)), repeats_back w v z.1 n.1)
+
   -- a number stands for equal names
   pub stands_same : (k : ℕ) (x y : N) → Stands laws names k x → eq x y ≡ true → Stands laws names k y
   stands_same k x y = StandsFor-same eq laws names k x y

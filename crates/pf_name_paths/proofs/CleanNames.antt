@@ -7,19 +7,14 @@ use Rattle.std.proofs.lemmas.List.Elements.{All-nil, All-cons, All-head, All-tai
 use Rattle.pf_base.specs.Walks.{NoRepeats, end_of}
 use Rattle.pf_base.specs.Edges.{IsSuccessor}
 use Rattle.pf_base.specs.Answers.{SameNodes}
-use Rattle.pf_edge_lists.proofs.NameWalks.{IsCarried, Stands, SameEdges, carried_edges, costs_out, end_stands, follows_named, follows_out, goal_back, goal_named, node_out, path_out, repeats_out, step_out, test_stands}
+use Rattle.pf_edge_lists.proofs.NameWalks.{IsCarried, Stands, SameEdges, carried_edges, costs_out, end_stands, follows_named, follows_out, goal_back, goal_named, path_out, repeats_out, step_out, test_stands}
+use Rattle.pf_name_numbers.proofs.NameReach.{repeats_back}
 use Rattle.pf_yen.specs.CleanPaths.{FailsBeforeEnd, PassesAtEndAlone, IsCleanPath, PathOverflows}
 use borrow.Author.Tests.{eqb-true}
 
 module _ {N : Type 0} {eq : N → N → Bool} (laws : IsEquivalence eq) (names : List N) (distinct : NoRepeats eq names) where
   abbrev Zip : List ℕ → List N → Type 0
   Zip = AllZip (Stands laws names)
-
-  repeats_back : (w : List ℕ) (v : List N) → Zip w v → NoRepeats eq v → NoRepeats nat_eq w
-  repeats_back [] [] z n = tt
-  repeats_back [] (y ∷ v) z n = absurd z
-  repeats_back (j ∷ w) [] z n = absurd z
-  repeats_back (j ∷ w) (y ∷ v) z n = ((λ h. n.0 (node_out laws names distinct w v j y z.1 z.0 h)), repeats_back w v z.1 n.1)
 
   -- paths are the same where their names are
   pub same_out : (w u : List ℕ) (v x : List N) → Zip w v → Zip u x → SameNodes nat_eq w u → SameNodes eq v x
@@ -101,7 +96,7 @@ module _ {N : Type 0} {eq : N → N → Bool} (laws : IsEquivalence eq) (names :
           r.0,
           r.1,
           record {
-            goes = record { goes = r.2; distinct = repeats_back r.0 v r.1 c.goes.distinct };
+            goes = record { goes = r.2; distinct = repeats_back laws names distinct r.0 v r.1 c.goes.distinct };
             fails = end_alone_back r.0 v r.1 c.fails;
           },
         )

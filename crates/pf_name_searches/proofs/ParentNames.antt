@@ -9,7 +9,7 @@ use Rattle.pf_base.specs.Walks.{HasNode, NoRepeats, Follows, BeginsAt, end_of}
 use Rattle.pf_base.specs.Edges.{InReach, IsSuccessor}
 use Rattle.pf_base.proofs.ListLemmas.{bool_dec}
 use Rattle.pf_edge_lists.proofs.NameWalks.{IsCarried, Stands, SameEdges, carried_edges, cheapest_out, end_stands, follows_back, goal_named, one, repeats_out, same_name, step_out, test_stands, goal_back, goal_out, costs_back, costs_out, node_out, step_back}
-use Rattle.pf_name_numbers.proofs.NameReach.{SameStarts, one_start, reach_back, reach_named, reach_numbered, reach_out, stands_same, node_numbered}
+use Rattle.pf_name_numbers.proofs.NameReach.{SameStarts, one_start, reach_back, reach_named, reach_numbered, reach_out, repeats_back, stands_same, node_numbered}
 use Rattle.pf_name_searches.specs.NameParents.{entry_of}
 use Rattle.pf_search.specs.Parents.{HasEntry, IsParent, IsLeastCost, IsStepFrom, CostsNoMore, CostsNoMoreThanStop, MeetsNoneTwice, IsChainOfParents, IsCheapestMap, IsPartialMap, RisesInCost, asked_nodes}
 use borrow.Author.Tests.{eqb-true}
@@ -131,19 +131,13 @@ module _ {N C : Type 0} {eq : N → N → Bool} (laws : IsEquivalence eq) (names
         let r = goal_back laws names distinct _ _ carried start from begins (λ y. nat_eq y k) (λ y. eq y x) tests l.0 l.1.goes.goes in (
           r.0,
           record {
-            goes = record { goes = r.2; distinct = repeats_back r.0 l.0 r.1 l.1.goes.distinct };
+            goes = record { goes = r.2; distinct = repeats_back laws names distinct r.0 l.0 r.1 l.1.goes.distinct };
             costs = costs_back laws names distinct edgesM edgesN alike r.0 l.0 t r.1 l.1.costs;
             best = λ w u g c.
                 let v = goal_named laws names distinct _ _ carried start from begins (λ y. nat_eq y k) w g in
                 l.1.best v.0 u (goal_out laws names distinct _ _ carried start from begins (λ y. nat_eq y k) (λ y. eq y x) tests w v.0 v.1 g) (costs_out laws names distinct edgesM edgesN alike w v.0 u v.1 c);
           },
         )
-      where
-        repeats_back : (w : List ℕ) (v : List N) → AllZip (Stands laws names) w v → NoRepeats eq v → NoRepeats nat_eq w
-        repeats_back [] [] z n = tt
-        repeats_back [] (y ∷ v) z n = absurd z
-        repeats_back (j ∷ w) [] z n = absurd z
-        repeats_back (j ∷ w) (y ∷ v) z n = ((λ m. n.0 (node_out laws names distinct w v j y z.1 z.0 m)), repeats_back w v z.1 n.1)
 
     pub sound_map : IsCheapestMap nat_eq edgesM start value entry → IsSound start
     sound_map h = record {
