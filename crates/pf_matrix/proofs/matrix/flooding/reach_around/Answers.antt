@@ -47,9 +47,9 @@ pub returns-in_err-push : goal.returns-in_err-push
 returns-in_err-push g c =
     let before = c.loop-neighbour.reached.items in
     let t = spreading_more c.args.free.now c.loop-neighbour.free (neighbours_of c.args.free.now.rows c.args.free.now.columns c.args.position.0 c.args.position.1 c.args.diagonals)
-        c.loop-neighbour.neighbour-iterator c.next.new.self c.args.reached.now.items before c.in-Some.neighbour
-        (near_in c.args.free.now.rows c.args.free.now.columns c.args.diagonals c.args.position) c.in-Some.ensures.steps c.loop-neighbour.invariant
-        c.close.new.free c.close.ensures.below c.close.ensures.closed (before ++ c.in-Some.neighbour ∷ []) c.if-close.ensures.was refl in
+    c.loop-neighbour.neighbour-iterator c.next.new.self c.args.reached.now.items before c.in-Some.neighbour
+    (near_in c.args.free.now.rows c.args.free.now.columns c.args.diagonals c.args.position) c.in-Some.ensures.steps c.loop-neighbour.invariant
+    c.close.new.free c.close.ensures.below c.close.ensures.closed (before ++ c.in-Some.neighbour ∷ []) c.if-close.ensures.was refl in
     record {
       sizes = (t.rows, t.columns);
       closes = t.spreads.closes;
