@@ -11,7 +11,7 @@ use Rattle.pf_core.specs.declared.labels.Label.{Label}
 use Rattle.pf_core.specs.Labels.{Labels, HasLabel, by_cost, AllSettled}
 use Rattle.pf_core.specs.Numbered.{Grows}
 use Rattle.pf_core.specs.Steps.{GoesAlong, IsNonNegative}
-use Rattle.pf_both_ends.specs.Internal.Mirrors.{IsReached}
+use Rattle.pf_two_sided.specs.Internal.Mirrors.{IsReached}
 use Rattle.pf_core.specs.Nodes.{NodeGraph, StandsFor, IsStep}
 use Rattle.pf_core.specs.Frontier.{IsFound}
 use Rattle.pf_core.specs.Search.{IsLow, IsLeast, Turned, StandsRoot, StepOverflows, SettledAt, WaitingAt}
@@ -19,7 +19,7 @@ use Rattle.pf_base.proofs.ListLemmas.{bool_dec, int_dec}
 use Rattle.pf_core.proofs.LabelLemmas.{HasLabel-inside}
 use Rattle.pf_core.proofs.FrontierLemmas.{frontier, walk_positive}
 use Rattle.pf_core.proofs.PathLemmas.{path_up}
-use Rattle.pf_both_ends.proofs.MirrorLemmas.{walk_back, end_append}
+use Rattle.pf_two_sided.proofs.MirrorLemmas.{walk_back, end_append}
 use Rattle.pf_core.proofs.SearchLemmas.{found_at, rooted}
 use Rattle.pf_core.proofs.TurnLemmas.{numbered_overflows}
 use Rattle.pf_core.proofs.NodeLemmas.{eq-sym, eq-trans, StandsFor-same, InReach-same, InReach-after}

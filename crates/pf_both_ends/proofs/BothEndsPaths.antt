@@ -17,7 +17,7 @@ use Rattle.pf_core.proofs.LabelLemmas.{label_is, parent_labelled}
 use Rattle.pf_core.proofs.FrontierLemmas.{goes_more, end_more}
 use Rattle.pf_core.proofs.PathLemmas.{chain_path, HasNode-append_cases, NoRepeats-append}
 use Rattle.pf_discovery.proofs.LoopWalks.{AllZip-cut}
-use Rattle.pf_both_ends.proofs.JoinLemmas.{behind_more}
+use Rattle.pf_two_sided.proofs.JoinLemmas.{behind_more}
 use Rattle.pf_core.proofs.SearchLemmas.{rooted}
 use Rattle.pf_core.proofs.NodeLemmas.{eq-sym, eq-trans, StandsFor-same, HasEdge-same}
 use Rattle.pf_core.proofs.WalkLemmas.{same_of, end_same, HasNode-same, distinct_nodes, cheapest_edge, walk_of_goes, goes_same, none_less, no_walk}

@@ -1,7 +1,3 @@
-pub mod MirrorLemmas
-pub mod MeetingLemmas
-pub mod SideLemmas
-pub mod JoinLemmas
 pub mod BothEndsLemmas
 pub mod BothEndsTurns
 pub mod BothEndsChains

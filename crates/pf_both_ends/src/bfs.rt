@@ -7,11 +7,11 @@ ghost use Rattle.pf_base.specs.Answers.{IsLawfulClone};
 ghost use Rattle.pf_discovery.specs.ExploredHops.{ExploresHops};
 ghost use Rattle.pf_base.specs.NodeRefs.{HasSameNodes};
 
-use crate::bidirectional::fewest_edges_between;
-use crate::two_sided::TwoSided;
 use pf_base::{PathError, SuccessorFunction};
 use pf_discovery::discovery::{Discovery, clones_of};
 use pf_discovery::source::{EdgeSource, Unweighted};
+use pf_two_sided::bidirectional::fewest_edges_between;
+use pf_two_sided::two_sided::TwoSided;
 use pf_utils::NodeRefs;
 use std::alloc::Allocator;
 use std::hash::Hash;

@@ -10,13 +10,13 @@ ghost use Rattle.pf_core.specs.Nodes.{StandsFor};
 ghost use Rattle.pf_both_ends.specs.BothEnds.{AnswersWeightedSearchFromBothEnds, OfWeightedSearchFromBothEnds};
 ghost use Rattle.pf_both_ends.specs.Internal.BothEnds.{AreNumberedOnce, bound, TellsAtMost, IsMeetingOn, NoneBelowOn, NoMeetingAmong, IsFirstMeeting, AreSoundOn, AreHalvesOn, IsPairOn, AnswersPair, OfPair, AnswersEnds, OfEnds, NoWalkAcross, NoWalkAcrossBelow};
 
-use crate::bidirectional::Halves;
-use crate::two_sided::TwoSided;
 use pf_base::{Cost, EdgeFunction, PathError};
 use pf_core::labels::{label_of, path_to};
 use pf_core::search::Search;
 use pf_discovery::discovery::{Discovery, Nodes, clone_of};
 use pf_discovery::source::{EdgeSource, Weighted};
+use pf_two_sided::bidirectional::Halves;
+use pf_two_sided::two_sided::TwoSided;
 use std::alloc::Allocator;
 use std::hash::Hash;
 

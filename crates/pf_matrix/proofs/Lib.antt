@@ -1,12 +1,9 @@
 pub mod Ends
 pub mod LineLemmas
 pub mod PositionLemmas
-pub mod SliceLemmas
-pub mod SquareLemmas
 pub mod TableLemmas
 pub mod ArrangeLemmas
 pub mod CallLemmas
-pub mod FillLemmas
 pub mod FloodLemmas
 pub mod TakeLemmas
 pub mod TableLaws

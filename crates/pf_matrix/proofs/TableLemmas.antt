@@ -4,8 +4,9 @@ use Rattle.std.specs.List.{swap}
 use Rattle.std.proofs.lemmas.Nat.{mul-add-lt, mul-le}
 use Rattle.std.proofs.lemmas.List.Edits.{length-swap}
 use Rattle.pf_matrix.specs.Tables.{Table, IsMatrix, HasPosition, value_at}
-use Rattle.pf_matrix.specs.Arrange.{IsArranged, IsCovered, IsExchanged, IsOverwritten, IsTransposed, itself}
-use Rattle.pf_matrix.proofs.SquareLemmas.{swap_first, swap_second, swap_other, apart}
+use Rattle.pf_matrix.specs.Arrange.{IsArranged, IsExchanged, IsOverwritten, IsTransposed, itself}
+use Rattle.pf_row_major.specs.Parts.{IsCovered}
+use Rattle.pf_row_major.proofs.SquareLemmas.{swap_first, swap_second, swap_other, apart}
 
 module _ {C : Type 0} where
   -- the place of a position inside is one of a value

@@ -3,7 +3,7 @@ use Rattle.std.proofs.Common.{◌≡◌, ℕ, ◌+◌, ◌*◌, ◌<◌, ◌≤�
 use Rattle.std.specs.Prelude.{IsSome}
 use Rattle.std.proofs.lemmas.List.{get_or-set_other, get_or_default}
 use Rattle.std.proofs.lemmas.Nat.{same_from_place}
-use Rattle.pf_matrix.proofs.FillLemmas.{Filling, fill_begin, fill_one}
+use Rattle.pf_row_major.proofs.FillLemmas.{Filling, fill_begin, fill_one}
 
 -- the first `at` places of the columns are taken, in order, and the others wait
 pub record Taking {C : Type 0} (rows columns : ℕ) (xs ws : List (Option C)) (ys : List C) (at : ℕ) : Type 0 where

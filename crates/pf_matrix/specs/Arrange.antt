@@ -3,6 +3,7 @@ use Rattle.std.specs.Prelude.{◌≡◌, ℕ, zero, suc, ◌+◌, ◌-◌, ◌*�
 use Rattle.std.specs.List.{AppendsClones, AllClonesOf}
 use Rattle.std.specs.declared.ops.Range.{Range}
 use Rattle.pf_matrix.specs.Tables.{Table, IsMatrix, value_at}
+use Rattle.pf_row_major.specs.Parts.{IsCovered}
 
 -- n has these sizes, and the value at (r, c) of n stands to the value of m at the position `from r c` as `like` says: a clone of it, or the value itself
 pub record IsArranged {C : Type 0} (like : C → C → Type 0) (height width : ℕ) (from : ℕ → ℕ → ℕ × ℕ) (m n : Table C) : Type 0 where
@@ -82,13 +83,6 @@ pub record IsWithin {C : Type 0} (m : Table C) (rows columns : Range ℕ) : Type
 -- n is the part of m in these rows and columns
 abbrev pub IsPart : {C : Type 0} → (C → C → Type 0) → Range ℕ → Range ℕ → Table C → Table C → Type 0
 IsPart like rows columns m n = IsArranged like (rows.end - rows.start) (columns.end - columns.start) (λ r c. (rows.start + r, columns.start + c)) m n
-
--- (r, c) is where a part of this many rows and columns lies that begins at `at`
-pub record IsCovered (at : ℕ × ℕ) (height width r c : ℕ) : Type 0 where
-  pub below : at.0 ≤ r
-  pub above : r < at.0 + height
-  pub right : at.1 ≤ c
-  pub left : c < at.1 + width
 
 -- n is m with the values of `part` from the position `at` on, as far as they fit
 pub record IsOverwritten {C : Type 0} (at : ℕ × ℕ) (part m n : Table C) : Type 0 where

@@ -7,7 +7,6 @@ pub mod giving;
 pub mod laws;
 mod macros;
 mod matrix;
-mod row_major;
 
 pub use crate::error::MatrixFormatError;
 pub use crate::macros::from_slices;

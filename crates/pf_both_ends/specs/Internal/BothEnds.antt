@@ -6,7 +6,7 @@ use Rattle.pf_base.specs.Answers.{ListsEdges}
 use Rattle.pf_discovery.specs.declared.discovery.Discovery.{Discovery}
 use Rattle.pf_core.specs.declared.labels.Label.{Label}
 use Rattle.pf_core.specs.declared.search.Search.{Search}
-use Rattle.pf_both_ends.specs.declared.two_sided.TwoSided.{TwoSided}
+use Rattle.pf_two_sided.specs.declared.two_sided.TwoSided.{TwoSided}
 use Rattle.pf_core.specs.Labels.{Labels, HasLabel, IsTree, IsChain, by_cost}
 use Rattle.pf_core.specs.Nodes.{NodeGraph, StandsFor, IsStep, Explores}
 use Rattle.pf_queue.specs.Entries.{Entries}

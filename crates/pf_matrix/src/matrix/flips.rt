@@ -9,7 +9,7 @@ ghost use Rattle.pf_matrix.specs.declared.error.MatrixFormatError.TheVariants.{O
 
 use crate::error::MatrixFormatError;
 use crate::matrix::Matrix;
-use crate::row_major::{cloned_upwards, exchange_rows, reverse_rows};
+use pf_row_major::{cloned_upwards, exchange_rows, reverse_rows};
 use std::alloc::Allocator;
 
 impl<C, A: Allocator> Matrix<C, A> {

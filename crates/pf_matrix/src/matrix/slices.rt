@@ -9,7 +9,7 @@ ghost use Rattle.pf_matrix.specs.declared.error.MatrixFormatError.TheVariants.{E
 
 use crate::error::MatrixFormatError;
 use crate::matrix::Matrix;
-use crate::row_major::{cloned_part, copy_part};
+use pf_row_major::{cloned_part, copy_part};
 use std::alloc::Allocator;
 use std::ops::Range;
 

@@ -6,7 +6,7 @@ ghost use Rattle.pf_matrix.specs.declared.error.MatrixFormatError.TheVariants.{O
 
 use crate::error::MatrixFormatError;
 use crate::matrix::Matrix;
-use crate::row_major::{cloned_columns, transpose_square};
+use pf_row_major::{cloned_columns, transpose_square};
 use std::alloc::{AllocError, Allocator};
 use std::mem;
 

@@ -1,5 +1,5 @@
-use Rattle.pf_both_ends.specs.Internal.Sides.{by_side}
-use Rattle.pf_both_ends.proofs.JoinLemmas.{mirrored, no_walk_between, joined_answer}
+use Rattle.pf_two_sided.specs.Internal.Sides.{by_side}
+use Rattle.pf_two_sided.proofs.JoinLemmas.{mirrored, no_walk_between, joined_answer}
 use Rattle.pf_core.proofs.UnitLemmas.{is_hop, begins_all, starts_stand}
 use Rattle.pf_core.specs.Hops.{hops_from}
 use Rattle.pf_base.proofs.Outcomes.{refused_as}

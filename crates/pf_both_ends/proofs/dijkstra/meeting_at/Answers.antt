@@ -7,7 +7,7 @@ use Rattle.pf_core.specs.Labels.{HasLabel}
 use Rattle.pf_core.specs.Nodes.{StandsFor}
 use Rattle.pf_base.proofs.ListLemmas.{at_place}
 use Rattle.pf_core.proofs.LabelLemmas.{label_is}
-use Rattle.pf_both_ends.proofs.SideLemmas.{place_across}
+use Rattle.pf_two_sided.proofs.SideLemmas.{place_across}
 use Rattle.pf_both_ends.proofs.BothEndsLemmas.{past_greatest}
 use Rattle.pf_discovery.proofs.ResultLemmas.{when_some, when_none}
 use Rattle.pf_discovery.proofs.StillLemmas.{read_at}

@@ -2,7 +2,7 @@ use Rattle.std.proofs.Common.{◌≡◌, ◌+◌, ◌-◌, ◌*◌, ap, sym, ◌
 use Rattle.std.proofs.lemmas.List.{with_items_is, get_or-reverse}
 use Rattle.pf_matrix.specs.Tables.{Table}
 use Rattle.pf_matrix.proofs.TableLemmas.{arranged_anew, matrix_anew, place_in}
-use Rattle.pf_matrix.proofs.SliceLemmas.{turned_place}
+use Rattle.pf_row_major.proofs.SliceLemmas.{turned_place}
 use Rattle.pf_matrix.proofs.matrix.Matrix.turn_twice.Goals as goal
 
 pub invariant_of-self : goal.invariant_of-self

@@ -1,6 +1,0 @@
-use Rattle.std.proofs.Common.{ℕ, ◌≤◌, ◌<◌}
-use Rattle.pf_both_ends.specs.Internal.Sides.{opposite}
-use Rattle.pf_both_ends.proofs.bfs_level.first_meeting.Given as goal
-
-abbrev pub invariant-numbers : goal.invariant-numbers
-invariant-numbers g l = (j k : ℕ) (x : g.G.TwoSidedGraph.Node) → l.first ≤ j → j < l.number → g.G.TwoSidedGraph.stands l.graph l.side j x → ¬ (g.G.TwoSidedGraph.stands l.graph (opposite l.side) k x)

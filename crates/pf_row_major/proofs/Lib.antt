@@ -1,0 +1,3 @@
+pub mod SliceLemmas
+pub mod SquareLemmas
+pub mod FillLemmas

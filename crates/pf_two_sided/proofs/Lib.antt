@@ -1,0 +1,4 @@
+pub mod MirrorLemmas
+pub mod MeetingLemmas
+pub mod SideLemmas
+pub mod JoinLemmas

@@ -1,0 +1,3 @@
+-- What no public contract cites.
+pub mod Sides
+pub mod Mirrors
