@@ -107,10 +107,7 @@ fn node_count(answer: &Option<Vec<usize, Heap<'_>>>) -> usize {
 }
 
 /// The table of these edges.
-fn laid_out<'a>(
-    heap: Heap<'a>,
-    edges: &[Edge],
-) -> Result<AdjacencyList<u32, Heap<'a>>, PathError> {
+fn laid_out<'a>(heap: Heap<'a>, edges: &[Edge]) -> Result<AdjacencyList<u32, Heap<'a>>, PathError> {
     match AdjacencyList::new(heap, NODES, edges) {
         Ok(graph) => Ok(graph),
         Err(AdjacencyError::OutOfMemory) => Err(PathError::OutOfMemory),
