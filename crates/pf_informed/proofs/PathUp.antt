@@ -1,5 +1,5 @@
 -- The path that the parents of labels lead along.
-use Rattle.std.proofs.Common.{ℕ, ◌<◌, ◌≤◌, ◌≡◌, refl, sym, ap, subst, arith, true, List, [], ◌∷◌, ◌++◌, inl, inr, ℤ, pos, nat_eq, eq-eqb}
+use Rattle.std.proofs.Common.{ℕ, ◌<◌, ◌≡◌, refl, sym, ap, subst, arith, true, List, [], ◌∷◌, ◌++◌, inl, inr, ℤ, pos, nat_eq, eq-eqb}
 use Rattle.std.specs.Prelude.{◌≤ℤ◌, ◌+ℤ◌, reverse}
 use Rattle.std.specs.List.{AllZip}
 use Rattle.std.proofs.lemmas.Int.{ints}
