@@ -48,9 +48,9 @@ pub returns-in_err-push : goal.returns-in_err-push
 returns-in_err-push g c =
     let before = c.loop-neighbour.reached.items in
     let t = spreading_more c.args.free.now c.loop-neighbour.free (neighbours_of c.args.self.now c.args.position)
-        c.loop-neighbour.neighbour-iterator c.next.new.self c.args.reached.now.items before c.in-Some.neighbour
-        (λ q h. let i = near_in c.args.self.now c.args.position q h in (rw c.requires.sizes.0 i.0, rw c.requires.sizes.1 i.1)) c.in-Some.ensures.steps c.loop-neighbour.invariant
-        c.close.new.free c.close.ensures.below c.close.ensures.closed (before ++ c.in-Some.neighbour ∷ []) c.if-close.ensures.was refl in
+    c.loop-neighbour.neighbour-iterator c.next.new.self c.args.reached.now.items before c.in-Some.neighbour
+    (λ q h. let i = near_in c.args.self.now c.args.position q h in (rw c.requires.sizes.0 i.0, rw c.requires.sizes.1 i.1)) c.in-Some.ensures.steps c.loop-neighbour.invariant
+    c.close.new.free c.close.ensures.below c.close.ensures.closed (before ++ c.in-Some.neighbour ∷ []) c.if-close.ensures.was refl in
     record {
       sizes = (t.rows, t.columns);
       closes = t.spreads.closes;
