@@ -8,7 +8,8 @@ use Rattle.pf_base.proofs.ListLemmas.{get_set}
 use Rattle.pf_informed.specs.declared.predecessors.Link.{Link}
 use Rattle.pf_informed.specs.Internal.Chains.{BeginsWith, link_and, chain, lists_at, IsChained, before_in, list_or_none}
 use Rattle.pf_informed.proofs.KnownLemmas.{get_left}
-use Rattle.pf_informed.proofs.RowLemmas.{get_last, of_some}
+use Rattle.pf_deepening.proofs.Writes.{of_some}
+use Rattle.pf_informed.proofs.RowLemmas.{get_last}
 
 abbrev pub Back : List Link → Type 0
 Back links = (i : ℕ) (l : Link) → slice_get links i ≡ Some l → l.next ≤ i

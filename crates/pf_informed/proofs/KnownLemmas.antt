@@ -10,9 +10,10 @@ use Rattle.pf_base.proofs.ListLemmas.{none_in, get-append}
 use Rattle.pf_core.proofs.NodeLemmas.{eq-sym, eq-trans, HasEdge-same}
 use Rattle.pf_core.proofs.SearchLemmas.{Grows-trans, Grows-refl}
 use Rattle.pf_informed.specs.declared.directed.idastar.known.Known.{Known}
-use Rattle.pf_informed.specs.declared.directed.idastar.rows.Span.{Span}
+use Rattle.pf_deepening.specs.declared.rows.Span.{Span}
 use Rattle.pf_informed.specs.Internal.Estimated.{IsEstimated}
-use Rattle.pf_informed.specs.Internal.Rows.{IsCheapestOf, HasSpan, IsIn, IsCheapStep, IsTable, HasRows, IsWhole, KnowsMore}
+use Rattle.pf_deepening.specs.Ways.{HasSpan}
+use Rattle.pf_informed.specs.Internal.Rows.{IsCheapestOf, IsIn, IsCheapStep, IsTable, HasRows, IsWhole, KnowsMore}
 
 pub get_left : {A : Type 0} (xs ys : List A) (i : ℕ) → i < length xs → slice_get (xs ++ ys) i ≡ slice_get xs i
 get_left [] ys i h = absurd (omega (arith, h))

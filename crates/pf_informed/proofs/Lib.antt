@@ -23,7 +23,6 @@ mod ChainLemmas
 pub mod CleanLemmas
 pub mod Callers
 pub mod RowLemmas
-pub mod CutOffLemmas
 pub mod KnownLemmas
 pub mod TrailLemmas
 pub mod ShortWays

@@ -14,7 +14,8 @@ use Rattle.pf_core.proofs.WalkLemmas.{HasNode-same, walk_of_goes}
 use Rattle.pf_informed.specs.Estimates.{EstimateOverflows}
 use Rattle.pf_informed.specs.Internal.Forest.{nat_of}
 use Rattle.pf_informed.specs.Internal.Rows.{IsCheapStep}
-use Rattle.pf_informed.specs.Internal.Deepening.{IsCutOff, AllCovered, IsWayPast, IsWayTo}
+use Rattle.pf_deepening.specs.Ways.{IsCutOff}
+use Rattle.pf_informed.specs.Internal.Deepening.{AllCovered, IsWayPast, IsWayTo}
 use Rattle.pf_informed.proofs.KnownLemmas.{one_node}
 use Rattle.pf_informed.proofs.NodeWalks.{cheap_is_step, cheap_of_goes, goes_of_cheap, costs_of_cheap}
 use Rattle.pf_informed.proofs.ShortWays.{shorten}

@@ -1,44 +1,22 @@
 -- Rows in which of parallel steps the cheapest alone is kept.
-use Rattle.std.proofs.Common.{◌≡◌, ◌<◌, ℕ, ℤ, Option, Some, None, List, [], ◌∷◌, ◌++◌, ◌∙◌, length, sym, subst, ap, refl, inl, inr, arith}
-use Rattle.std.specs.Prelude.{◌≤ℤ◌, ◌⊎◌, Contains, slice_get, slice_set}
+use Rattle.std.proofs.Common.{◌≡◌, ℕ, ℤ, Some, List, [], ◌∷◌, ◌++◌, ◌∙◌, length, sym, subst, ap, refl, inl, inr, arith}
+use Rattle.std.specs.Prelude.{◌≤ℤ◌, Contains, slice_get, slice_set}
 use Rattle.std.proofs.lemmas.Int.{ints}
 use Rattle.std.proofs.lemmas.Option.{slice_get_within}
 use Rattle.std.proofs.lemmas.List.Elements.{Contains-append_left, Contains-push}
 use Rattle.pf_base.proofs.ListLemmas.{Contains-append_one, get_set, get-append, get_push}
+use Rattle.pf_deepening.proofs.Writes.{of_some}
 use Rattle.pf_informed.specs.Internal.Rows.{IsCheapestOf}
 
 pub get_last : {A : Type 0} (xs : List A) (x : A) → slice_get (xs ++ x ∷ []) (length xs) ≡ Some x
 get_last [] x = refl
 get_last (y ∷ ys) x = get_last ys x
 
-pub of_some : {A : Type 0} (x y : A) → Some x ≡ Some y → x ≡ y
-of_some x y e = cc
-
 pub number_is : {C : Type 0} {s t : ℕ × C} → s ≡ t → s.0 ≡ t.0
 number_is {C} e = ap (λ (s : ℕ × C). s.0) e
 
 pub price_is : {C : Type 0} {s t : ℕ × C} → s ≡ t → s.1 ≡ t.1
 price_is {C} e = ap (λ (s : ℕ × C). s.1) e
-
--- the element at the place of a write
-pub set_here : {A : Type 0} (xs : List A) (n : ℕ) (v : A) → n < length xs → slice_get (slice_set xs n v) n ≡ Some v
-set_here xs n v h = elim (get_set xs n n v h) as (λ _. slice_get (slice_set xs n v) n ≡ Some v) [ inl r ↦ r.1 | inr r ↦ absurd (r.0 refl) ]
-
--- the element at another place than that of a write
-pub set_other : {A : Type 0} (xs : List A) (n k : ℕ) (v : A) → n < length xs → ¬ (k ≡ n) → slice_get (slice_set xs n v) k ≡ slice_get xs k
-set_other xs n k v h ne = elim (get_set xs n k v h) as (λ _. slice_get (slice_set xs n v) k ≡ slice_get xs k) [ inl r ↦ absurd (ne r.0) | inr r ↦ r.1 ]
-
-none_is : {A : Type 0} (x : A) → Some x ≡ None → ⊥
-none_is x e = cc
-
--- what stands in a list of options that is longer by places of nothing, once something is written
-pub written_from : {A : Type 0} (xs ys : List (Option A)) (n : ℕ) (v : A) → n < length ys
-    → ((k : ℕ) (x : Option A) → slice_get ys k ≡ Some x → slice_get xs k ≡ Some x ⊎ (x ≡ None))
-    → (k : ℕ) (x : A) → slice_get (slice_set ys n (Some v)) k ≡ Some (Some x) → slice_get xs k ≡ Some (Some x) ⊎ ((k ≡ n) × (x ≡ v))
-written_from {A} xs ys n v h from k x e = elim (get_set ys n k (Some v) h) as (λ _. slice_get xs k ≡ Some (Some x) ⊎ ((k ≡ n) × (x ≡ v))) [
-  | inl q ↦ inr (q.0, of_some x v (of_some (Some x) (Some v) (sym e ∙ q.1)))
-  | inr q ↦ elim (from k (Some x) (sym q.1 ∙ e)) as (λ _. slice_get xs k ≡ Some (Some x) ⊎ ((k ≡ n) × (x ≡ v))) [ inl r ↦ inl r | inr r ↦ absurd (none_is x r) ]
-]
 
 module _ {C : Type 0} (value : C → ℤ) (row : List (ℕ × C)) (places : List ℕ) (steps : List (ℕ × C)) (h : IsCheapestOf value row places steps) (n : ℕ) (p : C) where
   -- a dearer step

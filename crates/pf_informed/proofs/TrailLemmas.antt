@@ -11,10 +11,12 @@ use Rattle.pf_core.proofs.FrontierLemmas.{goes_more, end_more}
 use Rattle.pf_base.proofs.ListLemmas.{nat_dec, Contains-head, Contains-tail, Contains-cases, reverse-cons, AllZip-append}
 use Rattle.pf_core.proofs.WalkLemmas.{HasNode-same}
 use Rattle.pf_informed.proofs.PathUp.{NoRepeats-reverse}
-use Rattle.pf_informed.proofs.RowLemmas.{of_some, number_is, price_is}
-use Rattle.pf_informed.specs.declared.directed.idastar.rows.Span.{Span}
-use Rattle.pf_informed.specs.declared.directed.idastar.way.Frame.{Frame}
-use Rattle.pf_informed.specs.Internal.Rows.{HasSpan, IsIn, HasRows}
+use Rattle.pf_deepening.proofs.Writes.{of_some}
+use Rattle.pf_informed.proofs.RowLemmas.{number_is, price_is}
+use Rattle.pf_deepening.specs.declared.rows.Span.{Span}
+use Rattle.pf_deepening.specs.declared.way.Frame.{Frame}
+use Rattle.pf_deepening.specs.Ways.{HasSpan}
+use Rattle.pf_informed.specs.Internal.Rows.{IsIn, HasRows}
 use Rattle.pf_informed.specs.Internal.Deepening.{numbers_of, Avoids, AllCovered, IsLeft, IsFrame, IsAbove, IsTrail}
 
 -- a number that is not in a list

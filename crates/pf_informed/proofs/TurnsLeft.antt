@@ -1,7 +1,7 @@
 -- That a depth-first search to a limit ends.
 use Rattle.std.proofs.Common.{ℕ, zero, suc, ◌+◌, ◌-◌, ◌*◌, ◌^◌, ◌<◌, ◌≡◌, ◌∙◌, ap, arith, List, ◌∷◌, length}
 use Rattle.std.proofs.Math.Nat.{add-mul, suc-mul, pow-zero, pow-succ'}
-use Rattle.pf_informed.specs.declared.directed.idastar.way.Frame.{Frame}
+use Rattle.pf_deepening.specs.declared.way.Frame.{Frame}
 use Rattle.pf_informed.specs.Internal.Deepening.{places_left, turns_below, turns_left}
 
 -- one more times p

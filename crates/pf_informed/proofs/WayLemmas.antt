@@ -17,10 +17,12 @@ use Rattle.pf_base.proofs.ListLemmas.{at_place, reverse-cons, Contains-head, Con
 use Rattle.pf_core.proofs.PathLemmas.{AllZip-map}
 use Rattle.pf_core.proofs.WalkLemmas.{distinct_nodes}
 use Rattle.pf_informed.specs.Estimates.{IsAdmissible}
-use Rattle.pf_informed.specs.declared.directed.idastar.rows.Span.{Span}
-use Rattle.pf_informed.specs.declared.directed.idastar.way.Frame.{Frame}
-use Rattle.pf_informed.specs.Internal.Rows.{HasSpan, IsCheapStep, HasRows, IsTable}
-use Rattle.pf_informed.specs.Internal.Deepening.{IsMarked, numbers_of, IsCutOff, AllCovered, IsTrail, IsWayPast, IsWayTo, IsOnWay}
+use Rattle.pf_deepening.specs.declared.rows.Span.{Span}
+use Rattle.pf_deepening.specs.declared.way.Frame.{Frame}
+use Rattle.pf_deepening.specs.Ways.{HasSpan}
+use Rattle.pf_informed.specs.Internal.Rows.{IsCheapStep, HasRows, IsTable}
+use Rattle.pf_deepening.specs.Ways.{IsMarked, IsCutOff}
+use Rattle.pf_informed.specs.Internal.Deepening.{numbers_of, AllCovered, IsTrail, IsWayPast, IsWayTo, IsOnWay}
 use Rattle.pf_informed.proofs.KnownLemmas.{one_node}
 use Rattle.pf_informed.proofs.NodeWalks.{never_above, goes_of_cheap}
 use Rattle.pf_informed.proofs.TrailLemmas.{trail_more, advanced, spent, left, entered, way_to, way_up, distinct_to}

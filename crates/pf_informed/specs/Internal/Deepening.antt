@@ -3,26 +3,19 @@ use Rattle.std.specs.Prelude.{◌≡◌, ◌≤◌, ◌<◌, ◌+◌, ◌-◌, �
 use Rattle.pf_base.specs.Walks.{HasNode, NoRepeats, end_of}
 use Rattle.pf_core.specs.Nodes.{NodeGraph, StandsFor}
 use Rattle.pf_core.specs.Steps.{GoesAlong, IsNumberedPath}
-use Rattle.pf_informed.specs.declared.directed.idastar.rows.Span.{Span}
+use Rattle.pf_deepening.specs.declared.rows.Span.{Span}
 use Rattle.pf_informed.specs.declared.directed.idastar.known.Known.{Known}
-use Rattle.pf_informed.specs.declared.directed.idastar.way.Frame.{Frame}
-use Rattle.pf_informed.specs.declared.directed.idastar.way.Way.{Way}
+use Rattle.pf_deepening.specs.declared.way.Frame.{Frame}
+use Rattle.pf_deepening.specs.declared.way.Way.{Way}
 use Rattle.pf_informed.specs.declared.directed.idastar.round.Round.{Round}
 use Rattle.pf_informed.specs.declared.directed.idastar.round.Round.TheVariants.{Found, Missed}
-use Rattle.pf_informed.specs.Internal.Rows.{HasSpan, IsCheapStep}
-
--- the number is marked
-abbrev pub IsMarked : List Bool → ℕ → Type 0
-IsMarked marks k = slice_get marks k ≡ Some true
+use Rattle.pf_deepening.specs.Ways.{HasSpan, IsCutOff, IsMarked}
+use Rattle.pf_informed.specs.Internal.Rows.{IsCheapStep}
 
 -- the numbers of frames
 abbrev pub numbers_of : {C : Type 0} → List (Frame C) → List ℕ
 numbers_of [] = []
 numbers_of (f ∷ fs) = f.number ∷ numbers_of fs
-
--- What is known of each cost of a walk to a goal that was cut off: it is not below the least sum that was cut off, or it does not fit, and some sum did not.
-abbrev pub IsCutOff : {C : Type 0} → (C → ℤ) → (ℤ → Type 0) → Option C → Bool → ℤ → Type 0
-IsCutOff {C} value fits least past u = ((n : C) × (least ≡ Some n) × (value n ≤ℤ u)) ⊎ ((past ≡ true) × ¬ (fits u))
 
 module _ {C : Type 0} where
   -- how many places of a frame's row are left

@@ -4,7 +4,8 @@ use Rattle.pf_base.specs.Edges.{InReach, StepCosts}
 use Rattle.pf_core.specs.Nodes.{NodeGraph, StandsFor}
 use Rattle.pf_informed.specs.Internal.Led.{IsLed, FindsMore}
 use Rattle.pf_informed.specs.declared.directed.idastar.known.Known.{Known}
-use Rattle.pf_informed.specs.declared.directed.idastar.rows.Span.{Span}
+use Rattle.pf_deepening.specs.Ways.{HasSpan}
+use Rattle.pf_deepening.specs.declared.rows.Span.{Span}
 
 -- The row has a step to each number to which one of the steps leads, the cheapest of them, and no other. Its places are kept by number.
 pub record IsCheapestOf {C : Type 0} (value : C → ℤ) (row : List (ℕ × C)) (places : List ℕ) (steps : List (ℕ × C)) : Type 0 where
@@ -12,10 +13,6 @@ pub record IsCheapestOf {C : Type 0} (value : C → ℤ) (row : List (ℕ × C))
   pub from : (i j : ℕ) (c : C) → slice_get row i ≡ Some (j, c) → Contains steps (j, c)
   pub least : (i j : ℕ) (c d : C) → slice_get row i ≡ Some (j, c) → Contains steps (j, d) → value c ≤ℤ value d
   pub all : (j : ℕ) (d : C) → Contains steps (j, d) → (i : ℕ) × (c : C) × (slice_get row i ≡ Some (j, c))
-
--- the steps of this number stand there
-abbrev pub HasSpan : List (Option Span) → ℕ → Span → Type 0
-HasSpan spans k s = slice_get spans k ≡ Some (Some s)
 
 -- the place lies within the span
 abbrev pub IsIn : Span → ℕ → Type 0

@@ -18,13 +18,8 @@ use std::alloc::Allocator;
 use std::hash::Hash;
 
 mod cheapest_row;
-mod cut_off;
 mod known;
-mod marks;
 mod round;
-mod rows;
-mod way;
-mod widen;
 
 /// Searches from the only node that was found, with nothing known of it yet.
 fn search_on<N, C, S, T, H, A>(

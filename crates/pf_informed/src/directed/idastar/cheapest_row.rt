@@ -3,9 +3,9 @@
 ghost use Rattle.std.specs.Prelude.{◌≡◌, ◌⊎◌, ◌<◌, ◌≤ℤ◌, ◌++◌, ◌∷◌, [], ℕ, Some, OnOk, IfErr, MatchOption, length, slice_get, slice_set};
 ghost use Rattle.pf_informed.specs.Internal.Rows.{IsCheapestOf};
 
-use crate::directed::idastar::widen::widen;
 use pf_base::{Cost, PathError};
 use pf_core::row::Row;
+use pf_deepening::widen::widen;
 use std::alloc::Allocator;
 
 /// The steps from one node, at most one to each number.

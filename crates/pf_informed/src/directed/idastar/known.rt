@@ -2,16 +2,17 @@
 
 ghost use Rattle.std.specs.Prelude.{◌≡◌, ◌<◌, ℤ, Bool, [], true, Some, OnOk, IfOk, IfErr, MatchOption, ⊤};
 ghost use Rattle.pf_core.specs.Nodes.{NodeGraph, StandsFor};
-ghost use Rattle.pf_informed.specs.declared.directed.idastar.rows.Span.{Span};
+ghost use Rattle.pf_deepening.specs.declared.rows.Span.{Span};
 ghost use Rattle.pf_informed.specs.Internal.Led.{IsLed};
-ghost use Rattle.pf_informed.specs.Internal.Rows.{HasSpan, found_in, IsTabled, IsWhole, KnowsMore, IsKnown};
+ghost use Rattle.pf_deepening.specs.Ways.{HasSpan};
+ghost use Rattle.pf_informed.specs.Internal.Rows.{found_in, IsTabled, IsWhole, KnowsMore, IsKnown};
 
 use crate::directed::idastar::cheapest_row::CheapestRow;
-use crate::directed::idastar::rows::{Rows, Span};
 use crate::estimates::ask;
 use crate::functions::EstimateFunction;
 use pf_base::{Cost, NodeTest, PathError};
 use pf_core::numbered::{GoalGraph, NumberedGraph};
+use pf_deepening::rows::{Rows, Span};
 use pf_discovery::source::EdgeSource;
 use pf_discovery::tested::Tested;
 use std::alloc::Allocator;

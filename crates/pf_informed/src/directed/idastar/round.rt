@@ -2,16 +2,16 @@
 
 ghost use Rattle.std.specs.Prelude.{◌≡◌, ◌<◌, ◌≤ℤ◌, ◌++◌, ◌∷◌, [], ℤ, Bool, Some, OnOk, IfOk, IfErr, MatchOption, ⊤, map};
 ghost use Rattle.pf_core.specs.Nodes.{NodeGraph, StandsFor};
-ghost use Rattle.pf_informed.specs.declared.directed.idastar.way.Frame.{Frame};
+ghost use Rattle.pf_deepening.specs.declared.way.Frame.{Frame};
 ghost use Rattle.pf_informed.specs.Internal.Rows.{found_in, IsWhole, KnowsMore, IsKnown};
 ghost use Rattle.pf_informed.specs.Internal.Deepening.{turns_on, IsRound, Looked, IsUnderWay, IsMarkedOn};
 
-use crate::directed::idastar::cut_off::admit;
 use crate::directed::idastar::known::Known;
-use crate::directed::idastar::marks::is_marked;
-use crate::directed::idastar::way::{Frame, Way};
 use crate::functions::EstimateFunction;
 use pf_base::{Cost, NodeTest, PathError};
+use pf_deepening::cut_off::admit;
+use pf_deepening::marks::is_marked;
+use pf_deepening::way::{Frame, Way};
 use pf_discovery::source::EdgeSource;
 use std::alloc::Allocator;
 use std::hash::Hash;

@@ -7,7 +7,7 @@ use Rattle.pf_base.proofs.ListLemmas.{at_place}
 use Rattle.pf_core.proofs.NodeLemmas.{StandsFor-same, InReach-same}
 use Rattle.pf_core.proofs.WalkLemmas.{all_starts, only_starts, no_negative, no_walk, best_answer}
 use Rattle.pf_informed.specs.Internal.Estimated.{IsEstimated}
-use Rattle.pf_informed.specs.Internal.Deepening.{IsCutOff}
+use Rattle.pf_deepening.specs.Ways.{IsCutOff}
 use Rattle.pf_informed.proofs.LedLemmas.{graph_of, led_more}
 use Rattle.pf_informed.proofs.LimitLemmas.{limit_rises, covered_walk, next_limit, none_cut, none_fits, best_way, past_way}
 use Rattle.pf_informed.proofs.NodeWalks.{estimate_is, never_above, no_walk_fits}

@@ -5,8 +5,9 @@ use Rattle.pf_core.specs.NodeLaws.{StandsFor-one}
 use Rattle.pf_base.proofs.ListLemmas.{Contains-cases, Contains-reverse, Contains-append_one}
 use Rattle.pf_core.proofs.NodeLemmas.{InReach-same}
 use Rattle.pf_core.proofs.UnitLemmas.{begins_all}
-use Rattle.pf_informed.specs.declared.directed.idastar.way.Frame.{Frame}
-use Rattle.pf_informed.specs.Internal.Deepening.{IsMarked, numbers_of, turns_left}
+use Rattle.pf_deepening.specs.declared.way.Frame.{Frame}
+use Rattle.pf_deepening.specs.Ways.{IsMarked}
+use Rattle.pf_informed.specs.Internal.Deepening.{numbers_of, turns_left}
 use Rattle.pf_informed.proofs.KnownLemmas.{more_refl}
 use Rattle.pf_informed.proofs.NodeWalks.{estimate_is, estimate_at}
 use Rattle.pf_informed.proofs.TurnsLeft.{some_turns, advanced_less, entered_less}

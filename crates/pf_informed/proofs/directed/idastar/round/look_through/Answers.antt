@@ -2,8 +2,9 @@ use Rattle.std.proofs.Common.{◌≡◌, ◌<◌, [], ◌∷◌, List, ℕ, ℤ,
 use Rattle.std.specs.Prelude.{◌≤ℤ◌, ◌↔◌, ◌⊎◌, Contains, reverse}
 use Rattle.pf_base.proofs.ListLemmas.{Contains-cases, none_in}
 use Rattle.pf_core.proofs.NodeLemmas.{InReach-same}
-use Rattle.pf_informed.specs.declared.directed.idastar.way.Frame.{Frame}
-use Rattle.pf_informed.specs.Internal.Deepening.{IsMarked, numbers_of}
+use Rattle.pf_deepening.specs.declared.way.Frame.{Frame}
+use Rattle.pf_deepening.specs.Ways.{IsMarked}
+use Rattle.pf_informed.specs.Internal.Deepening.{numbers_of}
 use Rattle.pf_informed.proofs.KnownLemmas.{more_trans}
 use Rattle.pf_informed.proofs.WayLemmas.{still_found, marked_on, on_way_as, begun, start_way}
 use Rattle.pf_base.proofs.Outcomes.{if_refused, on_refused, refused_as}

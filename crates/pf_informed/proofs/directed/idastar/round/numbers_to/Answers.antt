@@ -2,7 +2,7 @@ use Rattle.pf_base.proofs.Outcomes.{if_refused, refused_as}
 use Rattle.std.proofs.Common.{refl, ◌∙◌, ◌++◌, ◌∷◌, [], ap, sym, take, ℕ, List}
 use Rattle.std.specs.Prelude.{map}
 use Rattle.std.proofs.lemmas.List.{map_more, take_all}
-use Rattle.pf_informed.specs.declared.directed.idastar.way.Frame.{Frame}
+use Rattle.pf_deepening.specs.declared.way.Frame.{Frame}
 use Rattle.pf_informed.proofs.directed.idastar.round.numbers_to.Goals as goal
 
 pub returns-in_err-numbers : goal.returns-in_err-numbers

@@ -1,6 +1,6 @@
 use Rattle.std.proofs.Common.{◌≡◌, take}
 use Rattle.std.specs.Prelude.{map}
-use Rattle.pf_informed.specs.declared.directed.idastar.way.Frame.{Frame}
+use Rattle.pf_deepening.specs.declared.way.Frame.{Frame}
 use Rattle.pf_informed.proofs.directed.idastar.round.numbers_to.Given as goal
 
 abbrev pub invariant-frames : goal.invariant-frames

@@ -1,9 +1,10 @@
 use Rattle.std.proofs.Common.{◌≡◌, ◌<◌, ◌+◌, ◌∷◌, List, ℕ, length, ap, ◌∙◌, sym, subst, arith, refl}
 use Rattle.std.specs.Prelude.{◌↔◌, Contains, reverse}
 use Rattle.pf_base.proofs.ListLemmas.{Contains-head, Contains-tail}
-use Rattle.pf_informed.specs.declared.directed.idastar.cut_off.CutOff.{CutOff}
-use Rattle.pf_informed.specs.declared.directed.idastar.way.Frame.{Frame}
-use Rattle.pf_informed.specs.Internal.Deepening.{IsMarked, numbers_of, turns_left, IsOnWay}
+use Rattle.pf_deepening.specs.declared.cut_off.CutOff.{CutOff}
+use Rattle.pf_deepening.specs.declared.way.Frame.{Frame}
+use Rattle.pf_deepening.specs.Ways.{IsMarked}
+use Rattle.pf_informed.specs.Internal.Deepening.{numbers_of, turns_left, IsOnWay}
 use Rattle.pf_informed.proofs.KnownLemmas.{more_refl}
 use Rattle.pf_informed.proofs.TurnsLeft.{left_less, some_turns}
 use Rattle.pf_informed.proofs.WayLemmas.{marked_back, frame_ends, room, on_way_as, went_back, all_done}

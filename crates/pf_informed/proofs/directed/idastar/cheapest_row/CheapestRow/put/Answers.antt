@@ -1,6 +1,6 @@
 use Rattle.std.proofs.Common.{◌≡◌, ◌∙◌, Some, length, ap, arith, refl}
 use Rattle.pf_base.proofs.Outcomes.{on_refused, refused_as}
-use Rattle.pf_informed.proofs.RowLemmas.{set_here, set_other}
+use Rattle.pf_deepening.proofs.Writes.{set_here, set_other}
 use Rattle.pf_informed.proofs.directed.idastar.cheapest_row.CheapestRow.put.Goals as goal
 
 pub returns-clause-steps : goal.returns-clause-steps

@@ -3,7 +3,8 @@ use Rattle.std.specs.Prelude.{◌++◌, ◌+◌, MatchOption, ⊤}
 use Rattle.pf_core.specs.Nodes.{StandsFor}
 use Rattle.pf_base.proofs.ListLemmas.{get-append}
 use Rattle.pf_core.proofs.SearchLemmas.{Grows-trans}
-use Rattle.pf_informed.specs.Internal.Rows.{IsCheapStep, IsTable, HasSpan}
+use Rattle.pf_deepening.specs.Ways.{HasSpan}
+use Rattle.pf_informed.specs.Internal.Rows.{IsCheapStep, IsTable}
 use Rattle.pf_informed.proofs.KnownLemmas.{more_refl, table_more, rows_more, rows_grown, cheap_sound, cheap_complete}
 use Rattle.pf_informed.proofs.LedLemmas.{with_test, led_grown, led_more}
 use Rattle.pf_base.proofs.Outcomes.{if_refused, on_refused, refused_as}
