@@ -53,7 +53,7 @@ pub fn components_of<N, M, S, A>(
 ) -> Result<Vec<Vec<N, A>, A>, PathError>
 where
     N: Eq + Clone + Drop,
-    M: Numbering<Node = N>,
+    M: Numbering<Node = N> + Drop,
     S: EdgeSource<N, u8>,
     A: Allocator + Copy,
     requires clones { IsLawfulClone N.eq N.is_clone }
