@@ -1,6 +1,6 @@
 //! Components and orders of the nodes that a discovery finds, whatever numbers them.
 
-ghost use Rattle.std.specs.Prelude.{◌≡◌, ◌⊎◌, ◌≤◌, ◌-◌, ◌<◌, [], ℕ, List, Err, IfOk, IfErr, length};
+ghost use Rattle.std.specs.Prelude.{◌≡◌, ◌⊎◌, ◌≤◌, ◌-◌, ◌<◌, [], ◌∷◌, ℕ, List, Err, IfOk, IfErr, length};
 ghost use Rattle.std.specs.List.{AllZip};
 ghost use Rattle.pf_base.specs.Answers.{IsLawfulClone};
 ghost use Rattle.pf_base.specs.Successors.{HasSuccessor};
@@ -9,7 +9,7 @@ ghost use Rattle.pf_core.specs.Nodes.{StandsFor};
 ghost use Rattle.pf_orders.specs.Internal.Beginnings.{Begins};
 ghost use Rattle.pf_orders.specs.Internal.ComponentSearch.{IsMember};
 ghost use Rattle.pf_orders.specs.GroupDepths.{AreClosed, HasDepth, AreDepthGroups, HaveNoDepth};
-ghost use Rattle.pf_orders.specs.StrongComponents.{AreStrongComponents, lists_of};
+ghost use Rattle.pf_orders.specs.StrongComponents.{AreStrongComponents, IsStrongComponentOf, lists_of};
 ghost use Rattle.pf_orders.specs.TopologicalOrders.{IsTopologicalOrder, IsOnCycle};
 
 use crate::component_search::strong_components;
@@ -64,6 +64,26 @@ where
 {
     let components = strong_components(alloc, &mut graph)?;
     components_at(alloc, graph.nodes.as_slice(), &components)
+}
+
+/// The strong component of the node that a discovery begins with.
+pub fn component_of<N, M, S, A>(alloc: A, graph: DiscoveryBy<M, S>) -> Result<Vec<N, A>, PathError>
+where
+    N: Eq + Clone + Drop,
+    M: Numbering<Node = N> + Drop,
+    S: EdgeSource<N, u8>,
+    A: Allocator + Copy,
+    requires clones { IsLawfulClone N.eq N.is_clone }
+    requires graph { (node : N) × (next : N → List N) × Begins N.eq S.answers (node ∷ []) next (M.keys graph.nodes) graph.source }
+    ensures component { (node : N) (next : N → List N) → Begins N.eq S.answers (node ∷ []) next (M.keys graph.nodes) graph.source
+        → IfOk result (λ component. IsStrongComponentOf N.eq next node component.items) }
+    ensures refused { IfErr result (λ e. e ≡ PathError.OutOfMemory) }
+{
+    let mut components = components_of(alloc, graph)?;
+    match components.pop() {
+        Some(component) => Ok(component),
+        None => unreachable!(),
+    }
 }
 
 /// The nodes of a graph that was not yet asked, and those in reach of them, in order.

@@ -9,7 +9,12 @@ use Rattle.std.specs.Prelude.{Result, Ok, Err, IfOk, OnOk, OnErr}
 use Rattle.pf_base.specs.declared.error.PathError.{PathError}
 use Rattle.pf_core.specs.Nodes.{AddsNode, StandsFor}
 use Rattle.pf_core.proofs.NodeLemmas.{AddsNode-new, AddsNode-old}
-use Rattle.pf_base.proofs.Callers.{nat_refl}
+use Rattle.std.specs.Cmp.{nat_eq_equiv}
+use Rattle.pf_base.specs.NodeRefs.{HasSameNodes}
+use Rattle.pf_base.specs.Walks.{HasNode}
+use Rattle.pf_core.proofs.PathLemmas.{HasNode-append_cases}
+use Rattle.pf_core.proofs.UnitLemmas.{starts_stand}
+use Rattle.pf_base.proofs.Callers.{nat_refl, nat_same}
 use Rattle.pf_table_functions.specs.Internal.Numbers.{AreNumbersOf}
 
 some_same : (x y : ℕ) → Some x ≡ Some y → x ≡ y
@@ -136,3 +141,37 @@ adds_node keys keys' node (Err x) absent e f = subst (AddsNode nat_eq node keys)
 pub stands_last : (keys keys' : List ℕ) (node : ℕ) (r : Result ℕ PathError) → OnOk r (keys' ≡ keys ++ node ∷ []) → IfOk r (λ k. k ≡ length keys) → IfOk r (λ k. StandsFor nat_eq keys' k node)
 stands_last keys keys' node (Ok k) e at = (node, subst (λ (ks : List ℕ). slice_get ks k ≡ Some node) (sym e) (subst (λ (j : ℕ). slice_get (keys ++ node ∷ []) j ≡ Some node) (sym at) (get_at_end keys node)), nat_refl node)
 stands_last keys keys' node (Err x) e at = tt
+
+-- a node that stands behind others, or was there before, is a node beside theirs
+pub same_added : (keys keys' ys : List ℕ) (x k : ℕ) → AddsNode nat_eq x keys keys' → StandsFor nat_eq keys' k x → HasSameNodes nat_eq keys ys → HasSameNodes nat_eq keys' (ys ++ x ∷ [])
+same_added keys keys' ys x k a s same y = (forth, back)
+  where
+    here : HasNode nat_eq keys' x
+    here = (starts_stand nat_eq nat_eq_equiv keys' keys' (λ z. (λ h. h, λ h. h)) x).0 (k, slice_get_within keys' k s.0 s.1, s)
+
+    left : (zs : List ℕ) → HasNode nat_eq zs y → HasNode nat_eq (zs ++ x ∷ []) y
+    left [] h = absurd h
+    left (z ∷ zs) (inl e) = inl e
+    left (z ∷ zs) (inr h) = inr (left zs h)
+
+    last : (zs : List ℕ) → nat_eq x y ≡ true → HasNode nat_eq (zs ++ x ∷ []) y
+    last [] e = inl e
+    last (z ∷ zs) e = inr (last zs e)
+
+    forth : HasNode nat_eq keys' y → HasNode nat_eq (ys ++ x ∷ []) y
+    forth h = elim a.grown as (λ _. HasNode nat_eq (ys ++ x ∷ []) y) [
+      | inl e ↦ left ys ((same y).0 (subst (λ (zs : List ℕ). HasNode nat_eq zs y) e h))
+      | inr e ↦ elim (HasNode-append_cases nat_eq keys x y (subst (λ (zs : List ℕ). HasNode nat_eq zs y) e h)) as (λ _. HasNode nat_eq (ys ++ x ∷ []) y) [
+        | inl f ↦ left ys ((same y).0 f)
+        | inr q ↦ last ys q
+      ]
+    ]
+
+    back : HasNode nat_eq (ys ++ x ∷ []) y → HasNode nat_eq keys' y
+    back h = elim (HasNode-append_cases nat_eq ys x y h) as (λ _. HasNode nat_eq keys' y) [
+      | inl f ↦ elim a.grown as (λ _. HasNode nat_eq keys' y) [
+        | inl e ↦ subst (λ (zs : List ℕ). HasNode nat_eq zs y) (sym e) ((same y).1 f)
+        | inr e ↦ subst (λ (zs : List ℕ). HasNode nat_eq zs y) (sym e) (left keys ((same y).1 f))
+      ]
+      | inr q ↦ subst (λ (z : ℕ). HasNode nat_eq keys' z) (nat_same (λ z. z) x y q) here
+    ]

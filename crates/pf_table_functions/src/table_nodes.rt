@@ -1,6 +1,8 @@
 //! Nodes of a table that are numbered in the order in which a search finds them.
 
-ghost use Rattle.std.specs.Prelude.{◌≡◌, ◌<◌, ◌-◌, ◌^◌, ◌++◌, [], ◌∷◌, ℕ, List, Some, IfOk, IfErr, OnErr, OnOk, MatchOption, length, slice_get, take};
+ghost use Rattle.std.specs.Prelude.{◌≡◌, ◌<◌, ◌-◌, ◌^◌, ◌++◌, [], ◌∷◌, ℕ, List, Some, IfOk, IfErr, IfSome, OnErr, OnOk, MatchOption, length, nat_eq, slice_get, take};
+ghost use Rattle.std.specs.List.{IsDistinct};
+ghost use Rattle.pf_base.specs.NodeRefs.{HasSameNodes};
 ghost use Rattle.pf_table_functions.specs.Internal.Numbers.{AreNumbersOf};
 
 use pf_base::PathError;
@@ -101,6 +103,26 @@ impl<A: Allocator> TableNodes<A> {
             self.numbers[node] = 0;
         }
     }
+}
+
+/// These nodes of a table with `size` nodes, each once, or `None` where one of them is no node of it.
+pub fn table_nodes_of<A: Allocator + Copy>(
+    alloc: A,
+    size: usize,
+    nodes: &[usize],
+) -> Result<Option<TableNodes<A>>, PathError>
+    ensures same { IfOk result (λ found. IfSome found (λ keys. HasSameNodes nat_eq keys nodes.now)) }
+    ensures distinct { IfOk result (λ found. IfSome found (λ keys. IsDistinct nat_eq keys)) }
+    ensures refused { IfErr result (λ e. e ≡ PathError.OutOfMemory) }
+{
+    let mut found = TableNodes::new(alloc, size)?;
+    'nodes: for node in nodes {
+        if *node >= size {
+            return Ok(None);
+        }
+        found.number_of(*node)?;
+    }
+    Ok(Some(found))
 }
 
 impl<A: Allocator> Numbering for TableNodes<A> {

@@ -6,7 +6,7 @@ ghost use Rattle.pf_base.specs.Successors.{HasSuccessor};
 ghost use Rattle.pf_base.specs.Walks.{IsReachable};
 ghost use Rattle.pf_orders.specs.StrongComponents.{IsStrongComponentOf, AreStrongComponents, lists_of};
 
-use crate::discovered::components_of;
+use crate::discovered::{component_of, components_of};
 use crate::nodes::nodes_of;
 use pf_base::{PathError, SuccessorFunction};
 use pf_discovery::discovery::{Discovery, clone_of};
@@ -88,11 +88,13 @@ where
 
     ensures errors { IfErr result (λ e. e ≡ PathError.OutOfMemory) }
 {
-    let mut components = strongly_connected_components_from(alloc, node, successors)?;
-    match components.pop() {
-        Some(component) => Ok(component),
-        None => unreachable!(),
-    }
+    let graph = Discovery {
+        nodes: clone_of(alloc, node)?,
+        source: Unweighted {
+            function: successors,
+        },
+    };
+    component_of(alloc, graph)
 }
 
 /// The strong components of all nodes in reach of the given ones: each node in reach once, in the
