@@ -11,30 +11,32 @@ ghost use Rattle.pf_core.specs.Numbered.{NumbersInOrder};
 ghost use Rattle.pf_core.specs.NodeLaws.{Explores-one, StandsFor-inside};
 
 use crate::source::EdgeSource;
+use crate::numbering::Numbering;
+pub use crate::numbering::Nodes;
 use indexmap::IndexSet;
 use pf_base::{Cost, PathError};
 use pf_core::numbered::NumberedGraph;
 use pf_core::row::Row;
 use pf_utils::NodeRefs;
 use std::alloc::Allocator;
-use std::hash::{BuildHasherDefault, FoldHasher, Hash};
+use std::hash::Hash;
 
-/// Nodes in the order in which they were found; the place of a node is its number.
-pub type Nodes<N, A> = IndexSet<N, BuildHasherDefault<FoldHasher>, A>;
-
-/// The nodes found so far, and what is asked for their edges.
+/// The nodes found so far, with numbers by `M`, and what is asked for their edges.
 #[derive(Drop)]
-pub struct Discovery<N: Eq + Hash, S, A: Allocator> {
-    pub nodes: Nodes<N, A>,
+pub struct DiscoveryBy<M, S> {
+    pub nodes: M,
     pub source: S,
 }
 
-impl<N, C, S, A> NumberedGraph<C> for Discovery<N, S, A>
+/// A discovery of nodes that are numbered by their hashes.
+pub type Discovery<N, S, A> = DiscoveryBy<Nodes<N, A>, S>;
+
+impl<N, M, C, S> NumberedGraph<C> for DiscoveryBy<M, S>
 where
-    N: Eq + Hash + Drop,
+    N: Eq + Drop,
+    M: Numbering<Node = N>,
     C: Cost,
     S: EdgeSource<N, C>,
-    A: Allocator + Copy,
 {
     ghost Node = { N };
 
@@ -46,13 +48,13 @@ where
 
     ghost passes = { λ _ _. false };
 
-    ghost node_count = { λ s. length s.nodes.keys };
+    ghost node_count = { λ s. length (M.keys s.nodes) };
 
-    ghost stands = { λ s. StandsFor N.eq s.nodes.keys };
+    ghost stands = { λ s. StandsFor N.eq (M.keys s.nodes) };
 
-    ghost explores = { λ s g. Explores N.eq S.answers g s.nodes.keys s.source };
+    ghost explores = { λ s g. Explores N.eq S.answers g (M.keys s.nodes) s.source };
 
-    ghost can_forget = { λ s k. k ≤ length s.nodes.keys };
+    ghost can_forget = { λ s k. k ≤ length (M.keys s.nodes) };
 
     fn node_count(&self) -> usize {
         self.nodes.len()
@@ -61,60 +63,60 @@ where
     fn expand<R: Row<C>>(&mut self, node: usize, row: &mut R) -> Result<(), PathError> {
         row.reset();
         let items = self.source.items(&self.nodes.as_slice()[node]);
-        number_all::<N, C, S, A, R>(&mut self.nodes, items, row)
+        number_all::<N, M, C, S, R>(&mut self.nodes, items, row)
     }
 
     fn forget(&mut self, first: usize) {
         self.nodes.truncate(first);
     }
 
-    ghost inside_law = { λ s k x h. StandsFor-inside N.eq s.nodes.keys k x h };
+    ghost inside_law = { λ s k x h. StandsFor-inside N.eq (M.keys s.nodes) k x h };
 
     ghost one_law = { λ s g e i j x. Explores-one N.Eq.laws e i j x };
 }
 
 /// Numbers the node of an edge, and puts the edge at the end of the row.
-fn number_edge<N, C, A, R>(
-    nodes: &mut Nodes<N, A>,
+fn number_edge<N, M, C, R>(
+    nodes: &mut M,
     row: &mut R,
     edge: (N, C),
 ) -> Result<(), PathError>
 where
-    N: Eq + Hash + Drop,
+    N: Eq + Drop,
+    M: Numbering<Node = N>,
     C: Cost,
-    A: Allocator + Copy,
     R: Row<C>,
-    ensures added { AddsNode N.eq edge.0 nodes.old.keys nodes.new.keys }
-    ensures numbered { OnOk result ((k : ℕ) × StandsFor N.eq nodes.new.keys k edge.0
+    ensures added { AddsNode N.eq edge.0 (M.keys nodes.old) (M.keys nodes.new) }
+    ensures numbered { OnOk result ((k : ℕ) × StandsFor N.eq (M.keys nodes.new) k edge.0
         × ((steps : List (ℕ × C)) → R.holds row.old steps → R.holds row.new (steps ++ (k, edge.1) ∷ []))) }
     ensures refused { IfErr result (λ e. e ≡ PathError.OutOfMemory) }
 {
-    let (number, _) = nodes.insert_full(edge.0)?;
+    let number = nodes.number_of(edge.0)?;
     row.add(number, edge.1)
 }
 
 /// Numbers the nodes of an answer. Where memory is refused, the nodes stay as they were.
-fn number_all<N, C, S, A, R>(
-    nodes: &mut Nodes<N, A>,
+fn number_all<N, M, C, S, R>(
+    nodes: &mut M,
     items: S::Items,
     row: &mut R,
 ) -> Result<(), PathError>
 where
-    N: Eq + Hash + Drop,
+    N: Eq + Drop,
+    M: Numbering<Node = N>,
     C: Cost,
     S: EdgeSource<N, C>,
-    A: Allocator + Copy,
     R: Row<C>,
     requires ends { IsFiniteIterable S.Items.into_iter_gives S.Items.IntoIter.can_next S.Items.IntoIter.remaining items }
     requires empty { R.holds row.old [] }
-    requires distinct { IsDistinct N.eq nodes.old.keys }
+    requires distinct { IsDistinct N.eq (M.keys nodes.old) }
     ensures numbered { OnOk result ((it : S.Items.IntoIter) × (xs : List S.Item) × S.Items.into_iter_gives items it × Drains S.Items.IntoIter.next_gives it xs
-        × ((steps : List (ℕ × C)) × R.holds row.new steps × NumbersItems N.eq nodes.new.keys steps (map S.edge xs)) × AddedFrom N.eq (map S.edge xs) nodes.old.keys nodes.new.keys
-        × NumbersInOrder (StandsFor N.eq nodes.new.keys) (length nodes.old.keys) (map (λ (x : N × C). x.0) (map S.edge xs)) (length nodes.new.keys)) }
-    ensures distinct { IsDistinct N.eq nodes.new.keys }
-    ensures longer { length nodes.old.keys ≤ length nodes.new.keys }
-    ensures kept { take (length nodes.old.keys) nodes.new.keys ≡ nodes.old.keys }
-    ensures stays { OnErr result (nodes.new.keys ≡ nodes.old.keys) }
+        × ((steps : List (ℕ × C)) × R.holds row.new steps × NumbersItems N.eq (M.keys nodes.new) steps (map S.edge xs)) × AddedFrom N.eq (map S.edge xs) (M.keys nodes.old) (M.keys nodes.new)
+        × NumbersInOrder (StandsFor N.eq (M.keys nodes.new)) (length (M.keys nodes.old)) (map (λ (x : N × C). x.0) (map S.edge xs)) (length (M.keys nodes.new))) }
+    ensures distinct { IsDistinct N.eq (M.keys nodes.new) }
+    ensures longer { length (M.keys nodes.old) ≤ length (M.keys nodes.new) }
+    ensures kept { take (length (M.keys nodes.old)) (M.keys nodes.new) ≡ (M.keys nodes.old) }
+    ensures stays { OnErr result ((M.keys nodes.new) ≡ (M.keys nodes.old)) }
     ensures refused { IfErr result (λ e. e ≡ PathError.OutOfMemory) }
 {
     let len = nodes.len();

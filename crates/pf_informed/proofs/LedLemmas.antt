@@ -11,7 +11,8 @@ use Rattle.pf_base.specs.Edges.{InReach}
 use Rattle.pf_base.specs.NodeRefs.{HasSameNodes}
 use Rattle.pf_core.specs.declared.labels.Label.{Label}
 use Rattle.pf_discovery.specs.declared.source.Weighted.{Weighted}
-use Rattle.pf_discovery.specs.declared.tested.Tested.{Tested}
+use Rattle.std.specs.HashSet.{HashSet}
+use Rattle.pf_discovery.specs.declared.tested.TestedBy.{TestedBy}
 use Rattle.pf_core.specs.Labels.{Labels, HasLabel}
 use Rattle.pf_core.specs.Nodes.{NodeGraph, TestedGraph, Explores}
 use Rattle.pf_core.specs.Numbered.{Grows}
@@ -54,9 +55,9 @@ module _ {X C : Type 0} (value : C → ℤ) (fits : ℤ → Type 0) (step : X �
   }
 
 module _ {N C S T H Z : Type 0} {eq : N → N → Bool} {value : C → ℤ} {edge_answers : S → List N → (N → List (N × ℤ)) → Type 0} {test_answers : T → (N → Type 0) → (N → Bool) → Type 0} {estimate_answers : H → (N → Type 0) → (N → ℤ) → Type 0}
-    {g : NodeGraph N} {test : N → Bool} {least : N → ℤ} {graph : Tested N S T Z} {estimate : H} {kept : List C} (led : IsLed eq value edge_answers test_answers estimate_answers g test least graph estimate kept) where
+    {g : NodeGraph N} {test : N → Bool} {least : N → ℤ} {graph : TestedBy (HashSet N Z) S T} {estimate : H} {kept : List C} (led : IsLed eq value edge_answers test_answers estimate_answers g test least graph estimate kept) where
   -- what is known of the graph, where more nodes were found
-  pub led_grown : IsEquivalence eq → length kept ≡ length graph.discovery.nodes.keys → (graph' : Tested N S T Z) → FindsMore eq graph graph' → Explores eq edge_answers g graph'.discovery.nodes.keys graph'.discovery.source → test_answers graph'.success (InReach eq g.edges g.starts) test
+  pub led_grown : IsEquivalence eq → length kept ≡ length graph.discovery.nodes.keys → (graph' : TestedBy (HashSet N Z) S T) → FindsMore eq graph graph' → Explores eq edge_answers g graph'.discovery.nodes.keys graph'.discovery.source → test_answers graph'.success (InReach eq g.edges g.starts) test
       → IsLed eq value edge_answers test_answers estimate_answers g test least graph' estimate kept
   led_grown laws wide graph' finds explores tested = record {
     explores = explores;
@@ -85,7 +86,7 @@ module _ {N C S T H Z : Type 0} {eq : N → N → Bool} {value : C → ℤ} {edg
 
 -- what is known of the start alone
 module _ {N C I S FN FS FH Z : Type 0} {eq : N → N → Bool} (laws : IsEquivalence eq) {value : C → ℤ} {becomes : I → S → Type 0} {can : S → Type 0} {left : S → Count} {next : S → Option (N × C) → S → Type 0} {calls : Mut FN (Bor N × Unit {0}) I} {tests : Mut FS (Bor N × Unit {0}) Bool} {estimates : Mut FH (Bor N × Unit {0}) C} where
-  pub led_begin : {start : N} {edges : N → List (N × ℤ)} {test : N → Bool} {least : N → ℤ} {graph : Tested N (Weighted FN) FS Z} {estimate : FH} {kept : List C} → IsDistinct eq graph.discovery.nodes.keys → HasSameNodes eq graph.discovery.nodes.keys (start ∷ []) → kept ≡ []
+  pub led_begin : {start : N} {edges : N → List (N × ℤ)} {test : N → Bool} {least : N → ℤ} {graph : TestedBy (HashSet N Z) (Weighted FN) FS} {estimate : FH} {kept : List C} → IsDistinct eq graph.discovery.nodes.keys → HasSameNodes eq graph.discovery.nodes.keys (start ∷ []) → kept ≡ []
       → IsInformedSearch eq edges (start ∷ []) (AnswersGraph calls becomes can left next eq value graph.discovery.source.function) (AnswersTest tests eq graph.success) (AnswersEstimate estimates eq value estimate) test least
       → IsLed eq value (AnswersEdges eq (AnswersGraph calls becomes can left next eq value)) (AnswersTest tests eq) (AnswersEstimate estimates eq value) (graph_of start edges) test least graph estimate kept
   led_begin {start} {edges} {graph = graph} {kept = kept} distinct same none s =

@@ -3,6 +3,7 @@
 
 mod component_search;
 pub mod directed;
+pub mod discovered;
 pub mod laws;
 mod nodes;
 mod ordering;

@@ -1,3 +1,4 @@
 pub mod EdgeLemmas
 mod EndLemmas
+pub mod NumberLemmas
 mod PlaceLemmas

@@ -6,3 +6,4 @@
 pub mod edges;
 pub mod goal_test;
 pub mod neighbours;
+pub mod table_nodes;

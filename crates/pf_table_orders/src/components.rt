@@ -4,8 +4,12 @@ ghost use Rattle.std.specs.Prelude.{◌≡◌, IfOk, IfErr, nat_eq};
 ghost use Rattle.pf_orders.specs.StrongComponents.{AreStrongComponents, IsStrongComponentOf, lists_of};
 ghost use Rattle.pf_tables.specs.Graphs.{successors_of};
 
+use crate::discovery::discovery_of;
 use pf_base::{Cost, PathError};
+use pf_orders::directed::strongly_connected_components;
+use pf_orders::discovered::{component_of, components_of};
 use pf_table_functions::edges::ends_of;
+use pf_table_functions::table_nodes::table_nodes_of;
 use pf_tables::Graph;
 use std::alloc::Allocator;
 
@@ -34,11 +38,14 @@ where
     ensures components { IfOk result (λ components. AreStrongComponents nat_eq (successors_of C.value (G.size graph.now) (G.places graph.now)) nodes.now (lists_of components.items)) }
     ensures errors { IfErr result (λ e. e ≡ PathError.OutOfMemory) }
 {
-    pf_orders::directed::strongly_connected_components::strongly_connected_components(
-        alloc,
-        nodes,
-        |n: &usize| ends_of(graph, *n),
-    )
+    match table_nodes_of(alloc, graph.len(), nodes)? {
+        Some(found) => components_of(alloc, discovery_of(graph, found)),
+        None => strongly_connected_components::strongly_connected_components(
+            alloc,
+            nodes,
+            |n: &usize| ends_of(graph, *n),
+        ),
+    }
 }
 
 /// The strong component of a node: all nodes that it reaches and that reach it, each once, in open
@@ -61,9 +68,12 @@ where
     ensures component { IfOk result (λ component. IsStrongComponentOf nat_eq (successors_of C.value (G.size graph.now) (G.places graph.now)) node component.items) }
     ensures errors { IfErr result (λ e. e ≡ PathError.OutOfMemory) }
 {
-    pf_orders::directed::strongly_connected_components::strongly_connected_component(
-        alloc,
-        &node,
-        |n: &usize| ends_of(graph, *n),
-    )
+    match table_nodes_of(alloc, graph.len(), &[node])? {
+        Some(found) => component_of(alloc, discovery_of(graph, found)),
+        None => strongly_connected_components::strongly_connected_component(
+            alloc,
+            &node,
+            |n: &usize| ends_of(graph, *n),
+        ),
+    }
 }

@@ -3,6 +3,7 @@
 #![tactic(auto)]
 
 mod components;
+mod discovery;
 mod orders;
 
 pub use crate::components::{strongly_connected_component, strongly_connected_components};

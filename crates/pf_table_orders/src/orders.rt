@@ -7,8 +7,12 @@ ghost use Rattle.pf_orders.specs.GroupDepths.{AreClosed, HasDepth, AreDepthGroup
 ghost use Rattle.pf_orders.specs.TopologicalOrders.{IsTopologicalOrder, IsOnCycle};
 ghost use Rattle.pf_tables.specs.Graphs.{successors_of};
 
-use pf_base::{Cost, PathError};
+use crate::discovery::discovery_of;
+use pf_base::{Cost, PathError, Tally};
+use pf_orders::directed::topological_sort;
+use pf_orders::discovered::{groups_in, order_in};
 use pf_table_functions::edges::ends_of;
+use pf_table_functions::table_nodes::table_nodes_of;
 use pf_tables::Graph;
 use std::alloc::Allocator;
 
@@ -38,11 +42,10 @@ where
     ensures cycle { IfOk result (λ answer. IfErr answer (λ node. IsReachable nat_eq (HasSuccessor nat_eq (successors_of C.value (G.size graph.now) (G.places graph.now))) roots.now node × IsOnCycle nat_eq (successors_of C.value (G.size graph.now) (G.places graph.now)) node)) }
     ensures errors { IfErr result (λ e. e ≡ PathError.OutOfMemory) }
 {
-    pf_orders::directed::topological_sort::topological_sort(
-        alloc,
-        roots,
-        |n: &usize| ends_of(graph, *n),
-    )
+    match table_nodes_of(alloc, graph.len(), roots)? {
+        Some(found) => order_in(alloc, &mut discovery_of(graph, found), &mut Tally::new()),
+        None => topological_sort::topological_sort(alloc, roots, |n: &usize| ends_of(graph, *n)),
+    }
 }
 
 /// The nodes in groups: group k has exactly those whose longest incoming walk from one of the `nodes`
@@ -78,9 +81,12 @@ where
         → (x : ℕ) × (y : ℕ) × HasNode nat_eq nodes.now x × HasSuccessor nat_eq (successors_of C.value (G.size graph.now) (G.places graph.now)) x y × ¬ (HasNode nat_eq nodes.now y) }
     ensures errors { IfErr result (λ e. (e ≡ PathError.OutOfMemory) ⊎ (e ≡ PathError.UnknownVertex)) }
 {
-    pf_orders::directed::topological_sort::topological_sort_into_groups(
-        alloc,
-        nodes,
-        |n: &usize| ends_of(graph, *n),
-    )
+    match table_nodes_of(alloc, graph.len(), nodes)? {
+        Some(found) => groups_in(alloc, &mut discovery_of(graph, found)),
+        None => topological_sort::topological_sort_into_groups(
+            alloc,
+            nodes,
+            |n: &usize| ends_of(graph, *n),
+        ),
+    }
 }

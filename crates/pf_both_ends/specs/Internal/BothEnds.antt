@@ -3,7 +3,8 @@ use Rattle.std.specs.Prelude.{◌≡◌, ◌⊎◌, ◌↔◌, ◌≤ℤ◌, ◌
 use Rattle.pf_base.specs.Walks.{end_of}
 use Rattle.pf_base.specs.Edges.{InReach, HasNoNegativeCost}
 use Rattle.pf_base.specs.Answers.{ListsEdges}
-use Rattle.pf_discovery.specs.declared.discovery.Discovery.{Discovery}
+use Rattle.std.specs.HashSet.{HashSet}
+use Rattle.pf_discovery.specs.declared.discovery.DiscoveryBy.{DiscoveryBy}
 use Rattle.pf_core.specs.declared.labels.Label.{Label}
 use Rattle.pf_core.specs.declared.search.Search.{Search}
 use Rattle.pf_two_sided.specs.declared.two_sided.TwoSided.{TwoSided}
@@ -20,7 +21,7 @@ abbrev pub from_one : {N : Type 0} → N → (N → List (N × ℤ)) → NodeGra
 from_one start edges = record { starts = start ∷ []; edges = edges }
 
 -- what is asked answers these edges from the node on, and the nodes found are in reach
-abbrev pub ExploresFrom : {N S Z : Type 0} → (N → N → Bool) → (S → List N → (N → List (N × ℤ)) → Type 0) → N → (N → List (N × ℤ)) → Discovery N S Z → Type 0
+abbrev pub ExploresFrom : {N S H : Type 0} → (N → N → Bool) → (S → List N → (N → List (N × ℤ)) → Type 0) → N → (N → List (N × ℤ)) → DiscoveryBy (HashSet N H) S → Type 0
 ExploresFrom eq answers start edges discovery = Explores eq answers (from_one start edges) discovery.nodes.keys discovery.source
 
 -- no two numbers stand for one node

@@ -2,7 +2,8 @@
 use Rattle.std.specs.Prelude.{◌≡◌, ◌⊎◌, ℕ, ℤ, Bool, true, List, [], ◌∷◌, slice_get, length}
 use Rattle.pf_base.specs.Edges.{InReach, HasNoNegativeCost}
 use Rattle.pf_core.specs.declared.labels.Label.{Label}
-use Rattle.pf_discovery.specs.declared.tested.Tested.{Tested}
+use Rattle.std.specs.HashSet.{HashSet}
+use Rattle.pf_discovery.specs.declared.tested.TestedBy.{TestedBy}
 use Rattle.pf_core.specs.Labels.{Labels, HasLabel}
 use Rattle.pf_core.specs.Nodes.{NodeGraph, StandsFor, IsStep, Explores}
 use Rattle.pf_core.specs.Numbered.{Grows}
@@ -13,8 +14,8 @@ use Rattle.pf_informed.specs.Internal.Waiting.{Entry, IsWaiting, IsSound}
 use Rattle.pf_informed.specs.declared.search.Search.{Search}
 
 -- What is asked answers a graph, a test and an estimate, and each estimate that is kept is right. No estimate is above the cost of a walk to a goal, and no edge in reach costs less than 0.
-module _ {N C S T H Z : Type 0} (eq : N → N → Bool) (value : C → ℤ) (edge_answers : S → List N → (N → List (N × ℤ)) → Type 0) (test_answers : T → (N → Type 0) → (N → Bool) → Type 0) (estimate_answers : H → (N → Type 0) → (N → ℤ) → Type 0) where
-  pub record IsLed (g : NodeGraph N) (test : N → Bool) (least : N → ℤ) (graph : Tested N S T Z) (estimate : H) (kept : List C) : Type 0 where
+module _ {N C S T H K : Type 0} (eq : N → N → Bool) (value : C → ℤ) (edge_answers : S → List N → (N → List (N × ℤ)) → Type 0) (test_answers : T → (N → Type 0) → (N → Bool) → Type 0) (estimate_answers : H → (N → Type 0) → (N → ℤ) → Type 0) where
+  pub record IsLed (g : NodeGraph N) (test : N → Bool) (least : N → ℤ) (graph : TestedBy (HashSet N K) S T) (estimate : H) (kept : List C) : Type 0 where
     pub explores : Explores eq edge_answers g graph.discovery.nodes.keys graph.discovery.source
     pub tested : test_answers graph.success (InReach eq g.edges g.starts) test
     pub same_test : (x y : N) → InReach eq g.edges g.starts x → eq x y ≡ true → test x ≡ test y
@@ -25,7 +26,7 @@ module _ {N C S T H Z : Type 0} (eq : N → N → Bool) (value : C → ℤ) (edg
     pub costs : HasNoNegativeCost eq g.edges g.starts
 
   -- What is answered from the start that stands at number 0.
-  module _ (graph : Tested N S T Z) (estimate : H) (kept : List C) where
+  module _ (graph : TestedBy (HashSet N K) S T) (estimate : H) (kept : List C) where
     -- some start stands first, and some edges, test and estimate from it are answered
     abbrev pub AnswersLedSearch : Type 0
     AnswersLedSearch = (start : N) × (edges : N → List (N × ℤ)) × (test : N → Bool) × (least : N → ℤ) × StandsFor eq graph.discovery.nodes.keys 0 start × IsLed (record { starts = start ∷ []; edges = edges }) test least graph estimate kept
@@ -47,11 +48,11 @@ pub record IsReady {C Z : Type 0} (value : C → ℤ) (found : ℕ) (search : Se
   pub asked : length search.estimates.items ≡ found
 
 -- the numbers of a graph stand for what they stood for, and more numbers may stand
-abbrev pub FindsMore : {N S T Z : Type 0} → (N → N → Bool) → Tested N S T Z → Tested N S T Z → Type 0
+abbrev pub FindsMore : {N S T K : Type 0} → (N → N → Bool) → TestedBy (HashSet N K) S T → TestedBy (HashSet N K) S T → Type 0
 FindsMore eq graph graph' = Grows (length graph.discovery.nodes.keys) (length graph'.discovery.nodes.keys) (StandsFor eq graph.discovery.nodes.keys) (StandsFor eq graph'.discovery.nodes.keys)
 
 -- what the search knows of the graph, where these entries wait
-abbrev pub IsInformedOn : {N C S T Z Z' : Type 0} → (N → N → Bool) → (C → ℤ) → (ℤ → Type 0) → NodeGraph N → (N → Bool) → Tested N S T Z → Search C Z' → List (Entry C) → Type 0
+abbrev pub IsInformedOn : {N C S T K Z : Type 0} → (N → N → Bool) → (C → ℤ) → (ℤ → Type 0) → NodeGraph N → (N → Bool) → TestedBy (HashSet N K) S T → Search C Z → List (Entry C) → Type 0
 IsInformedOn eq value fits g passes graph search entries = IsInformed value fits search.estimates.items (IsStep eq g) passes (StandsFor eq graph.discovery.nodes.keys) search.labels.items entries (length graph.discovery.nodes.keys)
 
 -- each label that waited waits on, but for that of this number

@@ -1,64 +1,18 @@
 //! Strongly connected components.
 
-ghost use Rattle.std.specs.Prelude.{◌≡◌, ◌∷◌, [], ◌<◌, ℕ, List, IfOk, IfErr, length};
-ghost use Rattle.std.specs.List.{AllZip};
+ghost use Rattle.std.specs.Prelude.{◌≡◌, ◌∷◌, [], List, IfOk, IfErr};
 ghost use Rattle.pf_base.specs.Answers.{IsLawfulClone};
 ghost use Rattle.pf_base.specs.Successors.{HasSuccessor};
 ghost use Rattle.pf_base.specs.Walks.{IsReachable};
-ghost use Rattle.pf_core.specs.Nodes.{StandsFor};
-ghost use Rattle.pf_orders.specs.Internal.Beginnings.{Begins};
 ghost use Rattle.pf_orders.specs.StrongComponents.{IsStrongComponentOf, AreStrongComponents, lists_of};
-ghost use Rattle.pf_orders.specs.Internal.ComponentSearch.{IsMember};
 
-use crate::component_search::strong_components;
+use crate::discovered::{component_of, components_of};
 use crate::nodes::nodes_of;
 use pf_base::{PathError, SuccessorFunction};
-use pf_core::clones::clones_at;
 use pf_discovery::discovery::{Discovery, clone_of};
-use pf_discovery::source::{EdgeSource, Unweighted};
+use pf_discovery::source::Unweighted;
 use std::alloc::Allocator;
 use std::hash::Hash;
-
-/// Clones of the nodes that the numbers of each component stand for.
-fn components_at<N, A>(
-    alloc: A,
-    nodes: &[N],
-    components: &[Vec<usize, A>],
-) -> Result<Vec<Vec<N, A>, A>, PathError>
-where
-    N: Eq + Clone + Drop,
-    A: Allocator + Copy,
-    requires inside { (i k : ℕ) → IsMember (lists_of components.now) i k → k < length nodes.now }
-    requires clones { IsLawfulClone N.eq N.is_clone }
-    ensures nodes { IfOk result (λ answer. AllZip (AllZip (StandsFor N.eq nodes.now)) (lists_of components.now) (lists_of answer.items)) }
-    ensures refused { IfErr result (λ e. e ≡ PathError.OutOfMemory) }
-{
-    let mut answer = Vec::with_capacity(alloc, components.len())?;
-    'components: for component in components {
-        let clones = clones_at(alloc, nodes, component)?;
-        answer.push(clones)?;
-    }
-    Ok(answer)
-}
-
-/// The strong components of the nodes in reach of those that a discovery begins with.
-fn components_of<N, S, A>(
-    alloc: A,
-    mut graph: Discovery<N, S, A>,
-) -> Result<Vec<Vec<N, A>, A>, PathError>
-where
-    N: Eq + Hash + Clone + Drop,
-    S: EdgeSource<N, u8>,
-    A: Allocator + Copy,
-    requires clones { IsLawfulClone N.eq N.is_clone }
-    requires graph { (starts : List N) × (next : N → List N) × Begins N.eq S.answers starts next graph.nodes.keys graph.source }
-    ensures components { (starts : List N) (next : N → List N) → Begins N.eq S.answers starts next graph.nodes.keys graph.source
-        → IfOk result (λ components. AreStrongComponents N.eq next starts (lists_of components.items)) }
-    ensures refused { IfErr result (λ e. e ≡ PathError.OutOfMemory) }
-{
-    let components = strong_components(alloc, &mut graph)?;
-    components_at(alloc, graph.nodes.as_slice(), &components)
-}
 
 /// The strong components of all nodes in reach of the start: each node in reach once, in the component
 /// of those that it reaches and that reach it, and each component behind every other that it reaches.
@@ -134,11 +88,13 @@ where
 
     ensures errors { IfErr result (λ e. e ≡ PathError.OutOfMemory) }
 {
-    let mut components = strongly_connected_components_from(alloc, node, successors)?;
-    match components.pop() {
-        Some(component) => Ok(component),
-        None => unreachable!(),
-    }
+    let graph = Discovery {
+        nodes: clone_of(alloc, node)?,
+        source: Unweighted {
+            function: successors,
+        },
+    };
+    component_of(alloc, graph)
 }
 
 /// The strong components of all nodes in reach of the given ones: each node in reach once, in the

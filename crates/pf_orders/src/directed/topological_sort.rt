@@ -4,18 +4,16 @@ ghost use Rattle.std.specs.Prelude.{◌≡◌, ◌≤◌, ◌-◌, List, IfOk, I
 ghost use Rattle.pf_base.specs.Answers.{IsLawfulClone};
 ghost use Rattle.pf_base.specs.Successors.{HasSuccessor};
 ghost use Rattle.pf_base.specs.Walks.{IsReachable, IsAtMostNumberOf};
-ghost use Rattle.pf_orders.specs.Internal.Beginnings.{Begins};
 ghost use Rattle.pf_orders.specs.TopologicalOrders.{IsTopologicalOrder, IsOnCycle};
 
 mod groups;
 
+use crate::discovered::order_in;
 use crate::nodes::nodes_of;
-use crate::ordering::sort_numbers;
 pub use groups::topological_sort_into_groups;
 use pf_base::{PathError, SuccessorFunction, Tally};
-use pf_core::clones::clones_at;
 use pf_discovery::discovery::Discovery;
-use pf_discovery::source::{EdgeSource, Unweighted};
+use pf_discovery::source::Unweighted;
 use std::alloc::Allocator;
 use std::hash::Hash;
 
@@ -60,44 +58,6 @@ where
 {
     let mut tally = Tally::new();
     topological_sort_tallied(alloc, roots, successors, &mut tally)
-}
-
-/// The nodes of a graph that was not yet asked, and those in reach of them, in order.
-fn order_in<N, S, A>(
-    alloc: A,
-    graph: &mut Discovery<N, S, A>,
-    tally: &mut Tally,
-) -> Result<Result<Vec<N, A>, N>, PathError>
-where
-    N: Eq + Hash + Clone + Drop,
-    S: EdgeSource<N, u8>,
-    A: Allocator + Copy,
-    requires clones { IsLawfulClone N.eq N.is_clone }
-    requires graph { (roots : List N) × (next : N → List N) × Begins N.eq S.answers roots next graph.old.nodes.keys graph.old.source }
-
-    ensures order { (roots : List N) (next : N → List N) → Begins N.eq S.answers roots next graph.old.nodes.keys graph.old.source
-        → IfOk result (λ answer. IfOk answer (λ order. IsTopologicalOrder N.eq next (IsReachable N.eq (HasSuccessor N.eq next) roots) order.items)) }
-
-    ensures cycle { (roots : List N) (next : N → List N) → Begins N.eq S.answers roots next graph.old.nodes.keys graph.old.source
-        → IfOk result (λ answer. IfErr answer (λ node. IsReachable N.eq (HasSuccessor N.eq next) roots node × IsOnCycle N.eq next node)) }
-
-    ensures asked { (roots : List N) (next : N → List N) → Begins N.eq S.answers roots next graph.old.nodes.keys graph.old.source
-        → IsAtMostNumberOf N.eq (IsReachable N.eq (HasSuccessor N.eq next) roots) (tally.new - tally.old) }
-
-    ensures ticked { tally.old ≤ tally.new }
-
-    ensures errors { IfErr result (λ e. e ≡ PathError.OutOfMemory) }
-{
-    match sort_numbers(alloc, graph, tally)? {
-        Ok(numbers) => {
-            let order = clones_at(alloc, graph.nodes.as_slice(), &numbers)?;
-            Ok(Ok(order))
-        }
-        Err(number) => {
-            let node = graph.nodes.as_slice()[number].clone()?;
-            Ok(Err(node))
-        }
-    }
 }
 
 /// The same as `topological_sort`, with one tick of `tally` for each node whose successors are asked

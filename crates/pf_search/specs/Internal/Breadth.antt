@@ -3,7 +3,8 @@ use Rattle.std.specs.Prelude.{◌≡◌, ◌≤◌, ◌++◌, ℕ, take, drop, l
 use Rattle.pf_base.specs.declared.error.PathError.{PathError}
 use Rattle.pf_base.specs.Answers.{SameNodes}
 use Rattle.pf_base.specs.Orders.{IsNextInBreadth, AllGiven}
-use Rattle.pf_discovery.specs.declared.discovery.Discovery.{Discovery}
+use Rattle.std.specs.HashSet.{HashSet}
+use Rattle.pf_discovery.specs.declared.discovery.DiscoveryBy.{DiscoveryBy}
 use Rattle.pf_discovery.specs.declared.source.Unweighted.{Unweighted}
 use Rattle.pf_search.specs.Breadth.{BreadthWalk}
 
@@ -12,7 +13,7 @@ abbrev pub walk_at : {N F : Type 0} → List N → ℕ → Bool → F → Breadt
 walk_at found given refused successors = record { given = take given found; waiting = drop given found; refused = refused; successors = successors }
 
 -- the same of what a discovery found, where no step was refused
-abbrev pub walk_in : {N F Z : Type 0} → Discovery N (Unweighted F) Z → ℕ → BreadthWalk N F
+abbrev pub walk_in : {N F H : Type 0} → DiscoveryBy (HashSet N H) (Unweighted F) → ℕ → BreadthWalk N F
 walk_in discovery given = walk_at discovery.nodes.keys given false discovery.source.function
 
 -- the nodes found, where a start that was not put in yet counts as found

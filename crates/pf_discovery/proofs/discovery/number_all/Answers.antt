@@ -8,8 +8,8 @@ use Rattle.pf_discovery.proofs.discovery.number_all.Goals as goal
 pub items-init : goal.items-init
 items-init g c = record {
   long = c.len-len.ensures.len;
-  longer = same_most c.len-len.result (length c.args.nodes.now.keys) c.len-len.ensures.len;
-  kept = take_all c.len-len.result c.args.nodes.now.keys (omega (arith, c.len-len.ensures.len));
+  longer = same_most c.len-len.result (length (g.M.Numbering.keys c.args.nodes.now)) c.len-len.ensures.len;
+  kept = take_all c.len-len.result (g.M.Numbering.keys c.args.nodes.now) (omega (arith, c.len-len.ensures.len));
   numbered = ([], c.requires.empty, tt);
   added = λ k m h. inl h;
   ordered = refl;
@@ -22,8 +22,8 @@ items-preserved g c =
     let i = c.items.invariant in
     let a = c.in_default.ensures.added in
     let n = c.in_default.ensures.numbered in
-    let keys = c.items.nodes.keys in
-    let keys' = c.number_edge.new.nodes.keys in
+    let keys = g.M.Numbering.keys c.items.nodes in
+    let keys' = g.M.Numbering.keys c.number_edge.new.nodes in
     let edge = g.S.EdgeSource.edge in
     let said = c.edge_of-edge.result in
     let more : map edge (c.items.yielded ++ c.in-Some.item ∷ []) ≡ map edge c.items.yielded ++ said ∷ [] = rw c.edge_of-edge.ensures (map-append edge c.items.yielded (c.in-Some.item ∷ [])) in
@@ -37,8 +37,8 @@ items-preserved g c =
         n.2 i.numbered.0 i.numbered.1,
         rw more (Numbers-push eq keys' i.numbered.0 (map edge c.items.yielded) n.0 said.1 said.0 grown n.1),
       );
-      added = rw more (AddedFrom-push eq c.args.nodes.now.keys keys keys' (map edge c.items.yielded) said.1 said.0 a i.added);
-      ordered = rw more (rw (map-append (λ (x : g.row.N.Denot × g.row.C.Denot). x.0) (map edge c.items.yielded) (said ∷ [])) (InOrder-push eq g.met.N.Eq.laws keys keys' (length c.args.nodes.now.keys) (map (λ (x : g.row.N.Denot × g.row.C.Denot). x.0) (map edge c.items.yielded)) said.0 n.0 a n.1 i.ordered));
+      added = rw more (AddedFrom-push eq (g.M.Numbering.keys c.args.nodes.now) keys keys' (map edge c.items.yielded) said.1 said.0 a i.added);
+      ordered = rw more (rw (map-append (λ (x : g.row.N.Denot × g.row.C.Denot). x.0) (map edge c.items.yielded) (said ∷ [])) (InOrder-push eq g.met.N.Eq.laws keys keys' (length (g.M.Numbering.keys c.args.nodes.now)) (map (λ (x : g.row.N.Denot × g.row.C.Denot). x.0) (map edge c.items.yielded)) said.0 n.0 a n.1 i.ordered));
       distinct = a.distinct i.distinct;
     }
 
@@ -54,13 +54,13 @@ returns-in-Err-clause-numbered g c = tt
 pub returns-in-Err-clause-stays : goal.returns-in-Err-clause-stays
 returns-in-Err-clause-stays g c =
     let i = c.items.invariant in
-    c.truncate.ensures.keys ∙ take_longer g.N.PartialEq.eq c.len-len.result c.items.nodes.keys c.number_edge.new.nodes.keys i.longer c.number_edge.ensures.added.kept ∙ i.kept
+    c.truncate.ensures.keys ∙ take_longer g.N.PartialEq.eq c.len-len.result (g.M.Numbering.keys c.items.nodes) (g.M.Numbering.keys c.number_edge.new.nodes) i.longer c.number_edge.ensures.added.kept ∙ i.kept
 
 pub returns-in-Err-clause-longer : goal.returns-in-Err-clause-longer
-returns-in-Err-clause-longer g c = same_longer c.args.nodes.now.keys c.truncate.new.self.keys (returns-in-Err-clause-stays g c)
+returns-in-Err-clause-longer g c = same_longer (g.M.Numbering.keys c.args.nodes.now) (g.M.Numbering.keys c.truncate.new.self) (returns-in-Err-clause-stays g c)
 
 pub returns-in-Err-clause-kept : goal.returns-in-Err-clause-kept
-returns-in-Err-clause-kept g c = same_kept c.args.nodes.now.keys c.truncate.new.self.keys (returns-in-Err-clause-stays g c)
+returns-in-Err-clause-kept g c = same_kept (g.M.Numbering.keys c.args.nodes.now) (g.M.Numbering.keys c.truncate.new.self) (returns-in-Err-clause-stays g c)
 
 pub returns-in-Err-clause-distinct : goal.returns-in-Err-clause-distinct
 returns-in-Err-clause-distinct g c = c.truncate.ensures.unique
@@ -81,8 +81,8 @@ returns g c = record {
         i.ordered,
       );
   distinct = c.items.invariant.distinct;
-  longer = subst (λ (n : ℕ). n ≤ length c.items.nodes.keys) c.items.invariant.long c.items.invariant.longer;
-  kept = subst (λ (n : ℕ). take n c.items.nodes.keys ≡ c.args.nodes.now.keys) c.items.invariant.long c.items.invariant.kept;
+  longer = subst (λ (n : ℕ). n ≤ length (g.M.Numbering.keys c.items.nodes)) c.items.invariant.long c.items.invariant.longer;
+  kept = subst (λ (n : ℕ). take n (g.M.Numbering.keys c.items.nodes) ≡ (g.M.Numbering.keys c.args.nodes.now)) c.items.invariant.long c.items.invariant.kept;
   stays = tt;
   refused = tt;
 }

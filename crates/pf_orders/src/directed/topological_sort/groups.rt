@@ -4,57 +4,15 @@ ghost use Rattle.std.specs.Prelude.{◌≡◌, ◌⊎◌, [], List, ℕ, Err, If
 ghost use Rattle.pf_base.specs.Answers.{IsLawfulClone};
 ghost use Rattle.pf_base.specs.Successors.{HasSuccessor};
 ghost use Rattle.pf_base.specs.Walks.{HasNode, IsReachable};
-ghost use Rattle.pf_orders.specs.Internal.Beginnings.{Begins};
 ghost use Rattle.pf_orders.specs.GroupDepths.{AreClosed, HasDepth, AreDepthGroups, HaveNoDepth};
 
-use crate::nodes::{groups_at, nodes_of};
-use crate::rounds::group_numbers;
-use crate::rows::read_rows;
+use crate::discovered::groups_in;
+use crate::nodes::nodes_of;
 use pf_base::{PathError, SuccessorFunction};
-use pf_core::clones::clones_at;
 use pf_discovery::discovery::Discovery;
-use pf_discovery::source::{EdgeSource, Unweighted};
+use pf_discovery::source::Unweighted;
 use std::alloc::Allocator;
 use std::hash::Hash;
-
-/// The nodes of a graph that was not yet asked, in groups by depth.
-fn groups_in<N, S, A>(
-    alloc: A,
-    graph: &mut Discovery<N, S, A>,
-) -> Result<Result<Vec<Vec<N, A>, A>, (Vec<Vec<N, A>, A>, Vec<N, A>)>, PathError>
-where
-    N: Eq + Hash + Clone + Drop,
-    S: EdgeSource<N, u8>,
-    A: Allocator + Copy,
-    requires clones { IsLawfulClone N.eq N.is_clone }
-    requires graph { (nodes : List N) × (next : N → List N) × Begins N.eq S.answers nodes next graph.old.nodes.keys graph.old.source }
-
-    ensures groups { (nodes : List N) (next : N → List N) → Begins N.eq S.answers nodes next graph.old.nodes.keys graph.old.source
-        → IfOk result (λ answer. IfOk answer (λ groups. AreDepthGroups N.eq next nodes groups.items
-        × ((x : N) → HasNode N.eq nodes x → (k : ℕ) × HasDepth N.eq next nodes x k))) }
-
-    ensures cycle { (nodes : List N) (next : N → List N) → Begins N.eq S.answers nodes next graph.old.nodes.keys graph.old.source
-        → IfOk result (λ answer. IfErr answer (λ both. AreDepthGroups N.eq next nodes both.0.items
-        × HaveNoDepth N.eq next nodes both.1.items × ¬ (both.1.items ≡ []))) }
-
-    ensures closed { (nodes : List N) (next : N → List N) → Begins N.eq S.answers nodes next graph.old.nodes.keys graph.old.source
-        → IfOk result (λ answer. AreClosed N.eq next nodes) }
-
-    ensures unknown { (nodes : List N) (next : N → List N) → Begins N.eq S.answers nodes next graph.old.nodes.keys graph.old.source
-        → result ≡ Err PathError.UnknownVertex
-        → (x : N) × (y : N) × HasNode N.eq nodes x × HasSuccessor N.eq next x y × ¬ (HasNode N.eq nodes y) }
-
-    ensures errors { IfErr result (λ e. (e ≡ PathError.OutOfMemory) ⊎ (e ≡ PathError.UnknownVertex)) }
-{
-    let (rows, counts) = read_rows(alloc, graph)?;
-    let levels = group_numbers(alloc, counts, rows)?;
-    let groups = groups_at(alloc, graph.nodes.as_slice(), &levels.groups)?;
-    if levels.remaining.is_empty() {
-        return Ok(Ok(groups));
-    }
-    let remaining = clones_at(alloc, graph.nodes.as_slice(), &levels.remaining)?;
-    Ok(Err((groups, remaining)))
-}
 
 /// The nodes in groups: group k has exactly those whose longest incoming walk from one of the nodes has
 /// k steps, each once, and no group is empty. Where some nodes have no longest incoming walk, since a

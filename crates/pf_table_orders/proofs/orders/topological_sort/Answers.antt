@@ -3,7 +3,32 @@ use Rattle.std.proofs.lemmas.Iterator.Consumers.{YieldsList-from_first}
 use Rattle.pf_base.proofs.Sources.{gives_chain}
 use Rattle.pf_tables.specs.Graphs.{successors_of}
 use Rattle.pf_table_functions.proofs.EdgeLemmas.{table_successors}
+use Rattle.pf_table_orders.proofs.TableBegins.{table_begins}
 use Rattle.pf_table_orders.proofs.orders.topological_sort.Goals as goal
+
+pub order_in-requires-clause-graph : goal.order_in-requires-clause-graph
+order_in-requires-clause-graph g c =
+    let size = g.G.Graph.size in
+    let places = g.G.Graph.places in
+    let table = c.args.graph.now in
+    let e = c.in_ok-found.ensures in
+    (c.args.roots.now, successors_of g.C.Number.value (size table) (places table), rw c.discovery_of.ensures (table_begins g.C.Number.value size places table c.args.roots.now c.in-Some.found (rw c.in-Some.is at e.distinct) (rw c.in-Some.is at e.same)))
+
+pub returns-in-Some-clause-order : goal.returns-in-Some-clause-order
+returns-in-Some-clause-order g c =
+    let size = g.G.Graph.size in
+    let places = g.G.Graph.places in
+    let table = c.args.graph.now in
+    let e = c.in_ok-found.ensures in
+    c.order_in.ensures.order c.args.roots.now (successors_of g.C.Number.value (size table) (places table)) (rw c.discovery_of.ensures (table_begins g.C.Number.value size places table c.args.roots.now c.in-Some.found (rw c.in-Some.is at e.distinct) (rw c.in-Some.is at e.same)))
+
+pub returns-in-Some-clause-cycle : goal.returns-in-Some-clause-cycle
+returns-in-Some-clause-cycle g c =
+    let size = g.G.Graph.size in
+    let places = g.G.Graph.places in
+    let table = c.args.graph.now in
+    let e = c.in_ok-found.ensures in
+    c.order_in.ensures.cycle c.args.roots.now (successors_of g.C.Number.value (size table) (places table)) (rw c.discovery_of.ensures (table_begins g.C.Number.value size places table c.args.roots.now c.in-Some.found (rw c.in-Some.is at e.distinct) (rw c.in-Some.is at e.same)))
 
 pub topological_sort-requires-clause-graph : goal.topological_sort-requires-clause-graph
 topological_sort-requires-clause-graph g c =
@@ -14,16 +39,16 @@ topological_sort-requires-clause-graph g c =
           (λ x r t w k. (search rules, gives_chain (λ it b. (search rules, search rules, YieldsList-from_first (λ e. e) (λ es. es) _ (search rules))))),
     )
 
-pub returns-clause-order : goal.returns-clause-order
-returns-clause-order g c =
+pub returns-in-None-clause-order : goal.returns-in-None-clause-order
+returns-in-None-clause-order g c =
     let size = g.G.Graph.size c.args.graph.now in
     let places = g.G.Graph.places c.args.graph.now in
     c.topological_sort.ensures.order (successors_of g.C.Number.value size places)
     (table_successors g.C.Number.value size places (λ x w. search rules)
     (λ x r t w k. (search rules, gives_chain (λ it b. (search rules, search rules, YieldsList-from_first (λ e. e) (λ es. es) _ (search rules))))))
 
-pub returns-clause-cycle : goal.returns-clause-cycle
-returns-clause-cycle g c =
+pub returns-in-None-clause-cycle : goal.returns-in-None-clause-cycle
+returns-in-None-clause-cycle g c =
     let size = g.G.Graph.size c.args.graph.now in
     let places = g.G.Graph.places c.args.graph.now in
     c.topological_sort.ensures.cycle (successors_of g.C.Number.value size places)

@@ -1,22 +1,15 @@
-use Rattle.std.proofs.Common.{length, ap, arith}
-use Rattle.pf_orders.specs.StrongComponents.{lists_of}
-use Rattle.pf_orders.proofs.ComponentLists.{none_popped, last_list}
-use Rattle.pf_orders.proofs.ComponentNodes.{some_component, last_component}
+use Rattle.std.specs.Prelude.{◌∷◌, []}
+use Rattle.pf_orders.proofs.BeginLemmas.{begins}
 use Rattle.pf_orders.proofs.directed.strongly_connected_components.strongly_connected_component.Goals as goal
 
-pub unreachable-requires : goal.unreachable-requires
-unreachable-requires g c =
+pub component_of-requires-clause-graph : goal.component_of-requires-clause-graph
+component_of-requires-clause-graph g c =
     let r = c.requires.graph in
-    let items = c.in_ok-components.components.items in
-    let l = some_component g.N.PartialEq.eq g.met.N.Eq.laws r.0 c.args.node.now (lists_of items) (c.in_ok-components.ensures.components r.0 r.1) in
-    let none = none_popped items c.pop.new.self.items _ c.in-None.ensures.items c.in-None.ensures.rest c.in-None.ensures.cases.0 in
-    omega (arith, l, ap (λ vs. length (lists_of vs)) none)
+    let e = c.in_ok-clone_of.ensures in
+    (c.args.node.now, r.0, begins g.met.N.Eq.laws e.distinct e.same r.1)
 
 pub returns : goal.returns
 returns g c = record {
-  component = λ next a.
-      let items = c.in_ok-components.components.items in
-      let last = last_list items c.pop.new.self.items c.in-Some.component c.in-Some.ensures.items in
-      last_component g.N.PartialEq.eq g.met.N.Eq.laws next c.args.node.now (lists_of items) (c.in_ok-components.ensures.components next a) (length (lists_of c.pop.new.self.items)) c.in-Some.component.items last.0 last.1;
-  errors = tt;
+  component = λ next a. let e = c.in_ok-clone_of.ensures in c.component_of.ensures.component c.args.node.now next (begins g.met.N.Eq.laws e.distinct e.same a);
+  errors = c.component_of.ensures.refused;
 }

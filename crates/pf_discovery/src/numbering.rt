@@ -1,0 +1,65 @@
+//! Nodes that are numbered in the order in which they are put in.
+
+ghost use Rattle.std.specs.Prelude.{◌≡◌, List, IfOk, IfErr, length, take};
+ghost use Rattle.std.specs.List.{IsDistinct};
+ghost use Rattle.pf_core.specs.Nodes.{AddsNode, StandsFor};
+
+use indexmap::IndexSet;
+use pf_base::PathError;
+use std::alloc::Allocator;
+use std::hash::{BuildHasherDefault, FoldHasher, Hash};
+
+/// Nodes in the order in which they were found, each once; the place of a node is its number.
+pub trait Numbering {
+    /// What is numbered.
+    type Node: Eq;
+
+    // The nodes that have numbers, in the order of these.
+    ghost keys: { Self → List Self.Node };
+
+    /// How many nodes have numbers.
+    fn len(&self) -> usize
+        ensures len { result ≡ length (keys self.now) };
+
+    /// The nodes that have numbers, in the order of these.
+    fn as_slice(&self) -> &[Self::Node]
+        ensures keys { result.now ≡ keys self.now }
+        ensures unique { IsDistinct Self.Node.eq (keys self.now) };
+
+    /// The number of a node, which is given one if it has none. Where memory is refused, all stays.
+    fn number_of(&mut self, node: Self::Node) -> Result<usize, PathError>
+        ensures added { AddsNode Self.Node.eq node (keys self.old) (keys self.new) }
+        ensures numbered { IfOk result (λ k. StandsFor Self.Node.eq (keys self.new) k node) }
+        ensures refused { IfErr result (λ e. e ≡ PathError.OutOfMemory) };
+
+    /// Keeps the numbers below `len` alone.
+    fn truncate(&mut self, len: usize)
+        ensures keys { keys self.new ≡ take len (keys self.old) }
+        ensures unique { IsDistinct Self.Node.eq (keys self.new) };
+}
+
+/// Nodes that are numbered by their hashes.
+pub type Nodes<N, A> = IndexSet<N, BuildHasherDefault<FoldHasher>, A>;
+
+impl<N: Eq + Hash + Drop, A: Allocator + Copy> Numbering for Nodes<N, A> {
+    type Node = N;
+
+    ghost keys = { λ s. s.keys };
+
+    fn len(&self) -> usize {
+        self.len()
+    }
+
+    fn as_slice(&self) -> &[N] {
+        self.as_slice()
+    }
+
+    fn number_of(&mut self, node: N) -> Result<usize, PathError> {
+        let (number, _) = self.insert_full(node)?;
+        Ok(number)
+    }
+
+    fn truncate(&mut self, len: usize) {
+        self.truncate(len);
+    }
+}
