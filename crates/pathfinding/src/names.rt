@@ -7,3 +7,6 @@ pub use pf_name_orders::{
 };
 pub use pf_name_paths::yen;
 pub use pf_name_searches::{NameParents, bfs_loop, dfs, dijkstra_all, dijkstra_partial, iddfs};
+pub use pf_name_walks::{
+    BfsReachable, DfsReachable, DijkstraReachable, bfs_reach, dfs_reach, dijkstra_reach,
+};

@@ -16,14 +16,14 @@ use borrow.Author.Tests.{eqb-true}
 
 module _ {N : Type 0} {eq : N → N → Bool} (laws : IsEquivalence eq) (names : List N) (distinct : NoRepeats eq names) (nextM : ℕ → List ℕ) (nextN : N → List N) (alike : (a : ℕ) (x : N) → Stands laws names a x → AllZip (Stands laws names) (nextM a) (nextN x))
     (name : ℕ → N) (named : (k : ℕ) (x : N) → Stands laws names k x → Stands laws names k (name k)) where
-  carried : IsCarried laws names (HasSuccessor nat_eq nextM) (HasSuccessor eq nextN)
+  pub carried : IsCarried laws names (HasSuccessor nat_eq nextM) (HasSuccessor eq nextN)
   carried = carried_next laws names distinct nextM nextN alike
 
   -- each number of the list stands for a name
   abbrev pub AllStand : List ℕ → Type 0
   AllStand ks = (k : ℕ) → Contains ks k → Stands laws names k (name k)
 
-  zip_of : (ks : List ℕ) → AllStand ks → Zip laws names distinct ks (map name ks)
+  pub zip_of : (ks : List ℕ) → AllStand ks → Zip laws names distinct ks (map name ks)
   zip_of [] all = tt
   zip_of (k ∷ ks) all = (all k (Contains-head ks k), zip_of ks (λ j c. all j (Contains-tail ks k j c)))
 
@@ -38,7 +38,7 @@ module _ {N : Type 0} {eq : N → N → Bool} (laws : IsEquivalence eq) (names :
   stand_right [] ys all = all
   stand_right (x ∷ xs) ys all = stand_right xs ys (λ j d. all j (Contains-tail (xs ++ ys) x j d))
 
-  stand_both : (xs ys : List ℕ) → AllStand xs → AllStand ys → AllStand (xs ++ ys)
+  pub stand_both : (xs ys : List ℕ) → AllStand xs → AllStand ys → AllStand (xs ++ ys)
   stand_both [] ys a b k c = b k c
   stand_both (x ∷ xs) ys a b k c = elim (Contains-cases (xs ++ ys) x k c) as (λ _. Stands laws names k (name k)) [
     | inl e ↦ subst (λ (n : ℕ). Stands laws names n (name n)) e (a x (Contains-head xs x))
@@ -52,7 +52,7 @@ module _ {N : Type 0} {eq : N → N → Bool} (laws : IsEquivalence eq) (names :
   ]
 
   -- what stands in the names of numbers
-  of_mapped : (ks : List ℕ) (x : N) → Contains (map name ks) x → (k : ℕ) × Contains ks k × (name k ≡ x)
+  pub of_mapped : (ks : List ℕ) (x : N) → Contains (map name ks) x → (k : ℕ) × Contains ks k × (name k ≡ x)
   of_mapped [] x c = absurd (omega (arith, c.1))
   of_mapped (k ∷ ks) x c = elim (Contains-cases (map name ks) (name k) x c) as (λ _. (j : ℕ) × Contains (k ∷ ks) j × (name j ≡ x)) [
     | inl e ↦ (k, Contains-head ks k, e)
@@ -76,7 +76,7 @@ module _ {N : Type 0} {eq : N → N → Bool} (laws : IsEquivalence eq) (names :
       let r = split_zip before after first ys z.1 in
       record { beforeN = y ∷ r.beforeN; firstN = r.firstN; afterN = r.afterN; is = ap (λ v. y ∷ v) r.is; zip = (z.0, r.zip); here = r.here }
 
-  last_mapped : (paths : List (List ℕ)) → last_nodes (map (map name) paths) ≡ map name (last_nodes paths)
+  pub last_mapped : (paths : List (List ℕ)) → last_nodes (map (map name) paths) ≡ map name (last_nodes paths)
   last_mapped [] = refl
   last_mapped ([] ∷ paths) = last_mapped paths
   last_mapped ((x ∷ w) ∷ paths) = ap (λ y. y ∷ last_nodes (map (map name) paths)) (end_mapped x w) ∙ ap (λ v. name (end_of x w) ∷ v) (last_mapped paths)
@@ -86,7 +86,7 @@ module _ {N : Type 0} {eq : N → N → Bool} (laws : IsEquivalence eq) (names :
       end_mapped a (b ∷ u) = end_mapped b u
 
   -- what follows a name of numbers that were passed was given
-  given_out : (given : List ℕ) → AllStand given → (k : ℕ) → Stands laws names k (name k) → ((j : ℕ) → HasNode nat_eq (nextM k) j → HasNode nat_eq given j) → (y : N) → HasNode eq (nextN (name k)) y → HasNode eq (map name given) y
+  pub given_out : (given : List ℕ) → AllStand given → (k : ℕ) → Stands laws names k (name k) → ((j : ℕ) → HasNode nat_eq (nextM k) j → HasNode nat_eq given j) → (y : N) → HasNode eq (nextN (name k)) y → HasNode eq (map name given) y
   given_out given all k s h y n =
       let j = carried.numbered k (name k) y s n in
       node_out laws names distinct given (map name given) j.0 y (zip_of given all) j.1 (h j.0 (carried.back k j.0 (name k) y s j.1 n))
@@ -144,15 +144,15 @@ module _ {N : Type 0} {eq : N → N → Bool} (laws : IsEquivalence eq) (names :
     start_stands : AllStand (start ∷ [])
     start_stands = stand_one start (named start from begins)
 
-    tree_stands : (given path path' : List ℕ) → AllStand given → AllStand path → IsNextTreePath nat_eq nextM start given path path' → AllStand path'
+    pub tree_stands : (given path path' : List ℕ) → AllStand given → AllStand path → IsNextTreePath nat_eq nextM start given path path' → AllStand path'
     tree_stands given [] path' all on n = subst AllStand (sym n) start_stands
     tree_stands given (x ∷ w) path' all on n = path_stands given (x ∷ w) path' all on n
 
-    tree_out : (given path path' : List ℕ) → AllStand given → AllStand path → IsNextTreePath nat_eq nextM start given path path' → IsNextTreePath eq nextN from (map name given) (map name path) (map name path')
+    pub tree_out : (given path path' : List ℕ) → AllStand given → AllStand path → IsNextTreePath nat_eq nextM start given path path' → IsNextTreePath eq nextN from (map name given) (map name path) (map name path')
     tree_out given [] path' all on n = ap (map name) n ∙ ap (λ x. x ∷ []) is_from
     tree_out given (x ∷ w) path' all on n = next_path_out given (x ∷ w) path' all on n
 
-    last_stands : (path : List ℕ) → AllStand path → AllStand (last_nodes (path ∷ []))
+    pub last_stands : (path : List ℕ) → AllStand path → AllStand (last_nodes (path ∷ []))
     last_stands [] on k c = absurd (omega (arith, c.1))
     last_stands (x ∷ w) on k c = stand_one (end_of x w) (on (end_of x w) (end_in x w)) k c
       where
@@ -160,7 +160,7 @@ module _ {N : Type 0} {eq : N → N → Bool} (laws : IsEquivalence eq) (names :
         end_in a [] = Contains-head [] a
         end_in a (b ∷ u) = Contains-tail (b ∷ u) a (end_of b u) (end_in b u)
 
-    preorder_out : (given path : List ℕ) (paths : List (List ℕ)) → AllStand given → AllStand path → GoesOnInPreorder nat_eq nextM start given path paths → GoesOnInPreorder eq nextN from (map name given) (map name path) (map (map name) paths)
+    pub preorder_out : (given path : List ℕ) (paths : List (List ℕ)) → AllStand given → AllStand path → GoesOnInPreorder nat_eq nextM start given path paths → GoesOnInPreorder eq nextN from (map name given) (map name path) (map (map name) paths)
     preorder_out given path [] all on h = tt
     preorder_out given path (next ∷ paths) all on h =
         let stands = tree_stands given path next all on h.0 in

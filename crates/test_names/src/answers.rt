@@ -1,5 +1,6 @@
 //! The lists that the tests search, and each call with its only right answer.
 
+use crate::walks::{is_breadth, is_by_cost, is_preorder};
 use pf_base::PathError;
 use pf_edge_lists::EdgeList;
 use pf_name_orders::{
@@ -62,6 +63,12 @@ pub enum Call {
     Groups,
     /// The same, of edges with one.
     RingGroups,
+    /// `bfs_reach`.
+    BreadthWalk,
+    /// `dfs_reach`.
+    PreorderWalk,
+    /// `dijkstra_reach`.
+    CostWalk,
 }
 
 impl Call {
@@ -198,6 +205,9 @@ pub fn is_right<'h>(
         Call::Depth => is_path(dfs(heap, places, &"a", &"d"), &["a", "b", "d"]),
         Call::Deepened => is_path(iddfs(heap, places, &"a", &"d"), &["a", "b", "d"]),
         Call::Loop => is_path(bfs_loop(heap, places, &"b"), &["b", "c", "a", "b"]),
+        Call::BreadthWalk => is_breadth(heap, places),
+        Call::PreorderWalk => is_preorder(heap, places),
+        Call::CostWalk => is_by_cost(heap, places),
         Call::Component => Ok(strongly_connected_component(heap, places, &"c")?.len() == 3),
         Call::Components => are_components(strongly_connected_components(heap, places)),
         Call::Order => is_order(heap, topological_sort(heap, places)),

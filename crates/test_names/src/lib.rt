@@ -8,3 +8,5 @@ mod answers;
 mod refusals;
 #[cfg(test)]
 mod tests;
+#[cfg(test)]
+mod walks;

@@ -23,6 +23,9 @@ pub const CALLS: &[Call] = &[
     Call::Ring,
     Call::Groups,
     Call::RingGroups,
+    Call::BreadthWalk,
+    Call::PreorderWalk,
+    Call::CostWalk,
 ];
 
 /// How a call ends whose growths are refused from this number on, so many of them, or nothing where its list

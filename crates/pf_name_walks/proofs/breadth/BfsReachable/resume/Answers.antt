@@ -1,0 +1,19 @@
+use Rattle.std.proofs.Common.{ap}
+use Rattle.pf_name_walks.specs.NameWalks.{breadth_by_name}
+use Rattle.pf_name_walks.proofs.BreadthNames.{over_by_name, still_over}
+use Rattle.pf_name_walks.proofs.breadth.BfsReachable.resume.Goals as goal
+
+pub invariant_of-self : goal.invariant_of-self
+invariant_of-self g c =
+    let i = c.self.inside in
+    still_over g.met.N.Eq.laws g.C.Number.value i.list.now i.from.now i.walk c.resume.new.self c.self.invariant (ap (λ w. w.table) c.resume.ensures.lowered) (ap (λ w. w.start) c.resume.ensures.lowered) c.resume.ensures.graph
+
+pub returns-clause-lowered : goal.returns-clause-lowered
+returns-clause-lowered g c =
+    let i = c.self.inside in
+    rw (← c.self.view_is) (ap (λ w. breadth_by_name g.N.PartialEq.eq i.list.now i.from.now w.walk) c.resume.ensures.lowered)
+
+pub returns-clause-graph : goal.returns-clause-graph
+returns-clause-graph g c =
+    let i = c.self.inside in
+    over_by_name g.met.N.Eq.laws g.C.Number.value i.list.now i.from.now c.resume.new.self (invariant_of-self g c)
