@@ -61,6 +61,18 @@ impl<'a, C: Cost, G: Graph<C>, T: Goals + Copy> Estimates<'a, C, G, T> {
         })
     }
 
+    /// The same, where the estimates are known to be consistent: nothing is tested.
+    pub fn from_consistent(graph: &'a G, goals: T, estimates: &'a [C]) -> Self
+        requires { AreConsistent C.value (G.size graph.now) (G.places graph.now) (T.passes goals) estimates.now }
+        ensures { result ≡ record { table = graph.now; goals = goals; estimates = estimates.now } }
+    {
+        Estimates {
+            graph,
+            goals,
+            estimates,
+        }
+    }
+
     /// The estimate of a node. That of a number that is no node is 0.
     pub fn estimate(&self, node: usize) -> C
         ensures { C.value result ≡ estimate_at C.value self.now.estimates node }

@@ -2,6 +2,7 @@
 use Rattle.std.proofs.Common.{true, ◌≡◌, inl, inr, ℕ, nat_eq, eq-eqb, refl, sym, subst, ◌∙◌, Bool, List, [], ◌∷◌}
 use Rattle.std.specs.Cmp.{IsEquivalence}
 use Rattle.std.specs.List.{AllZip}
+use Rattle.pf_base.specs.Answers.{SameNodes}
 use Rattle.pf_base.specs.Walks.{HasNode, NoRepeats, IsGoalWalk, IsReachable, end_of}
 use Rattle.pf_core.proofs.NodeLemmas.{StandsFor-same}
 use Rattle.pf_edge_lists.proofs.NameWalks.{IsCarried, Stands, end_stands, follows_back, follows_named, follows_out, node_back, node_out, test_stands}
@@ -17,6 +18,27 @@ module _ {N : Type 0} {eq : N → N → Bool} (laws : IsEquivalence eq) (names :
   repeats_back [] (y ∷ v) z n = absurd z
   repeats_back (j ∷ w) [] z n = absurd z
   repeats_back (j ∷ w) (y ∷ v) z n = ((λ h. n.0 (node_out laws names distinct w v j y z.1 z.0 h)), repeats_back w v z.1 n.1)
+
+  -- paths are the same where their names are
+  pub same_out : (w u : List ℕ) (v x : List N) → Zip w v → Zip u x → SameNodes nat_eq w u → SameNodes eq v x
+  same_out [] [] [] [] z y h = tt
+  same_out [] [] [] (b ∷ x) z y h = absurd y
+  same_out [] [] (a ∷ v) x z y h = absurd z
+  same_out [] (k ∷ u) v x z y h = absurd h
+  same_out (j ∷ w) [] v x z y h = absurd h
+  same_out (j ∷ w) (k ∷ u) [] x z y h = absurd z
+  same_out (j ∷ w) (k ∷ u) (a ∷ v) [] z y h = absurd y
+  same_out (j ∷ w) (k ∷ u) (a ∷ v) (b ∷ x) z y h = (sym (test_stands laws names distinct k b y.0 j a z.0) ∙ h.0, same_out w u v x z.1 y.1 h.1)
+
+  pub same_back : (w u : List ℕ) (v x : List N) → Zip w v → Zip u x → SameNodes eq v x → SameNodes nat_eq w u
+  same_back [] [] v x z y h = tt
+  same_back [] (k ∷ u) [] [] z y h = absurd y
+  same_back [] (k ∷ u) [] (b ∷ x) z y h = absurd h
+  same_back [] (k ∷ u) (a ∷ v) x z y h = absurd z
+  same_back (j ∷ w) u [] x z y h = absurd z
+  same_back (j ∷ w) u (a ∷ v) [] z y h = absurd h
+  same_back (j ∷ w) [] (a ∷ v) (b ∷ x) z y h = absurd y
+  same_back (j ∷ w) (k ∷ u) (a ∷ v) (b ∷ x) z y h = (test_stands laws names distinct k b y.0 j a z.0 ∙ h.0, same_back w u v x z.1 y.1 h.1)
 
   -- a number stands for equal names
   pub stands_same : (k : ℕ) (x y : N) → Stands laws names k x → eq x y ≡ true → Stands laws names k y

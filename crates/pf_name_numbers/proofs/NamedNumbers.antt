@@ -35,10 +35,10 @@ module _ {N C : Type 0} {eq : N → N → Bool} (laws : IsEquivalence eq) (list 
   unlisted : list_any (eq other) (names_of eq list) ≡ false → names_with eq list other ≡ names_of eq list ++ other ∷ []
   unlisted h = ap (λ (b : Bool). if b then names_of eq list else names_of eq list ++ other ∷ []) h
 
-  none_listed : list_any (eq other) (names_of eq list) ≡ false → ¬ (HasNode eq (names_of eq list) other)
+  pub none_listed : list_any (eq other) (names_of eq list) ≡ false → ¬ (HasNode eq (names_of eq list) other)
   none_listed h n = true≢false (sym (any_of_node laws (names_of eq list) other n) ∙ h)
 
-  not_any : ¬ (HasNode eq (names_of eq list) other) → list_any (eq other) (names_of eq list) ≡ false
+  pub not_any : ¬ (HasNode eq (names_of eq list) other) → list_any (eq other) (names_of eq list) ≡ false
   not_any none = elim (bool_dec (list_any (eq other) (names_of eq list))) as (λ _. list_any (eq other) (names_of eq list) ≡ false) [
     | inl t ↦ let s = number_stands laws (names_of eq list) other t in absurd (none (has_at laws (names_of eq list) _ s.0 other s.1 s.2))
     | inr f ↦ f

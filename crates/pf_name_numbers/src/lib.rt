@@ -5,3 +5,4 @@
 pub mod listed;
 pub mod names;
 pub mod numbers;
+pub mod paths;

@@ -6,8 +6,7 @@ use Rattle.std.specs.List.{AllZip}
 use Rattle.std.proofs.lemmas.List.Elements.{All-nil, All-cons, All-head, All-tail}
 use Rattle.pf_base.specs.Walks.{NoRepeats, end_of}
 use Rattle.pf_base.specs.Edges.{IsSuccessor}
-use Rattle.pf_base.specs.Answers.{SameNodes}
-use Rattle.pf_edge_lists.proofs.NameWalks.{IsCarried, Stands, SameEdges, carried_edges, costs_out, end_stands, follows_named, follows_out, goal_back, goal_named, path_out, repeats_out, step_out, test_stands}
+use Rattle.pf_edge_lists.proofs.NameWalks.{IsCarried, Stands, SameEdges, carried_edges, costs_out, end_stands, follows_named, follows_out, goal_back, goal_named, path_out, repeats_out, step_out}
 use Rattle.pf_name_numbers.proofs.NameReach.{repeats_back}
 use Rattle.pf_yen.specs.CleanPaths.{FailsBeforeEnd, PassesAtEndAlone, IsCleanPath, PathOverflows}
 use borrow.Author.Tests.{eqb-true}
@@ -15,27 +14,6 @@ use borrow.Author.Tests.{eqb-true}
 module _ {N : Type 0} {eq : N → N → Bool} (laws : IsEquivalence eq) (names : List N) (distinct : NoRepeats eq names) where
   abbrev Zip : List ℕ → List N → Type 0
   Zip = AllZip (Stands laws names)
-
-  -- paths are the same where their names are
-  pub same_out : (w u : List ℕ) (v x : List N) → Zip w v → Zip u x → SameNodes nat_eq w u → SameNodes eq v x
-  same_out [] [] [] [] z y h = tt
-  same_out [] [] [] (b ∷ x) z y h = absurd y
-  same_out [] [] (a ∷ v) x z y h = absurd z
-  same_out [] (k ∷ u) v x z y h = absurd h
-  same_out (j ∷ w) [] v x z y h = absurd h
-  same_out (j ∷ w) (k ∷ u) [] x z y h = absurd z
-  same_out (j ∷ w) (k ∷ u) (a ∷ v) [] z y h = absurd y
-  same_out (j ∷ w) (k ∷ u) (a ∷ v) (b ∷ x) z y h = (sym (test_stands laws names distinct k b y.0 j a z.0) ∙ h.0, same_out w u v x z.1 y.1 h.1)
-
-  pub same_back : (w u : List ℕ) (v x : List N) → Zip w v → Zip u x → SameNodes eq v x → SameNodes nat_eq w u
-  same_back [] [] v x z y h = tt
-  same_back [] (k ∷ u) [] [] z y h = absurd y
-  same_back [] (k ∷ u) [] (b ∷ x) z y h = absurd h
-  same_back [] (k ∷ u) (a ∷ v) x z y h = absurd z
-  same_back (j ∷ w) u [] x z y h = absurd z
-  same_back (j ∷ w) u (a ∷ v) [] z y h = absurd h
-  same_back (j ∷ w) [] (a ∷ v) (b ∷ x) z y h = absurd y
-  same_back (j ∷ w) (k ∷ u) (a ∷ v) (b ∷ x) z y h = (test_stands laws names distinct k b y.0 j a z.0 ∙ h.0, same_back w u v x z.1 y.1 h.1)
 
   module _ (edgesM : ℕ → List (ℕ × ℤ)) (edgesN : N → List (N × ℤ)) (alike : (a : ℕ) (x : N) → Stands laws names a x → SameEdges laws names distinct (edgesM a) (edgesN x))
       (start : ℕ) (from : N) (begins : Stands laws names start from) (testM : ℕ → Bool) (testN : N → Bool) (tests : (k : ℕ) (x : N) → Stands laws names k x → testM k ≡ testN x) where

@@ -1,9 +1,9 @@
 -- The cheapest clean paths over numbers and over the names that they stand for.
-use Rattle.std.proofs.Common.{◌≡◌, ℕ, zero, suc, ◌<◌, ◌≤◌, ℤ, nat_eq, Bool, List, [], ◌∷◌, map, refl, sym, ap, ◌∙◌, subst, inl, inr, arith}
+use Rattle.std.proofs.Common.{◌≡◌, ℕ, ◌<◌, ◌≤◌, ℤ, nat_eq, Bool, List, map, sym, subst, inl, inr, arith}
 use Rattle.std.specs.Prelude.{◌≤ℤ◌, Contains, Some, slice_get}
 use Rattle.std.specs.Cmp.{IsEquivalence}
 use Rattle.std.specs.List.{AllZip}
-use Rattle.std.proofs.lemmas.List.{get_or-map, length-map}
+use Rattle.std.proofs.lemmas.List.{length-map}
 use Rattle.std.proofs.lemmas.Option.{slice_get_within, get_or_from_slice_get}
 use Rattle.pf_base.specs.Walks.{NoRepeats}
 use Rattle.pf_base.specs.Edges.{WalkCosts}
@@ -11,24 +11,12 @@ use Rattle.pf_base.specs.Answers.{SameNodes}
 use Rattle.pf_edge_lists.proofs.NameWalks.{Stands, SameEdges, costs_back, costs_out}
 use Rattle.pf_yen.specs.CleanPaths.{IsCleanPath, WasGiven}
 use Rattle.pf_yen.specs.KCheapest.{MayComeBefore, IsKCheapest}
-use Rattle.pf_name_paths.proofs.CleanNames.{clean_back, clean_named, clean_out, same_back, same_out}
-
-pub mapped_in : {A B : Type 0} (f : A → B) (xs : List A) (x : A) → Contains xs x → Contains (map f xs) (f x)
-mapped_in f xs x c = (c.0, subst (λ (n : ℕ). c.0 < n) (sym (length-map xs f)) c.1, get_or-map f xs c.0 x (f x) c.1 ∙ ap f c.2)
-
-pub in_mapped : {A B : Type 0} (f : A → B) (xs : List A) (y : B) → Contains (map f xs) y → (x : A) × Contains xs x × (f x ≡ y)
-in_mapped f [] y c = absurd (omega (arith, c.1))
-in_mapped f (x ∷ xs) y (zero, lt, e) = (x, (0, omega arith, refl), e)
-in_mapped f (x ∷ xs) y (suc k, lt, e) = let r = in_mapped f xs y (k, omega (arith, lt), e) in (r.0, (suc r.1.0, omega (arith, r.1.1), r.1.2), r.2)
+use Rattle.pf_name_numbers.proofs.MappedLists.{got_mapped, in_mapped, mapped_in}
+use Rattle.pf_name_numbers.proofs.NameReach.{same_back, same_out}
+use Rattle.pf_name_paths.proofs.CleanNames.{clean_back, clean_named, clean_out}
 
 contains_got : {A : Type 0} (xs : List A) (i : ℕ) (x : A) → slice_get xs i ≡ Some x → Contains xs x
 contains_got xs i x e = (i, slice_get_within xs i x e, get_or_from_slice_get xs i x x e)
-
--- what stands at a place of the images
-got_mapped : {A B : Type 0} (f : A → B) (xs : List A) (i : ℕ) (y : B) → slice_get (map f xs) i ≡ Some y → (x : A) × (slice_get xs i ≡ Some x) × (f x ≡ y)
-got_mapped f [] i y e = cc
-got_mapped f (x ∷ xs) zero y e = (x, refl, cc)
-got_mapped f (x ∷ xs) (suc i) y e = got_mapped f xs i y e
 
 module _ {N : Type 0} {eq : N → N → Bool} (laws : IsEquivalence eq) (names : List N) (distinct : NoRepeats eq names) (name : ℕ → N) (named : (ks : List ℕ) (xs : List N) → AllZip (Stands laws names) ks xs → AllZip (Stands laws names) ks (map name ks))
     (edgesM : ℕ → List (ℕ × ℤ)) (edgesN : N → List (N × ℤ)) (alike : (a : ℕ) (x : N) → Stands laws names a x → SameEdges laws names distinct (edgesM a) (edgesN x))

@@ -1,16 +1,12 @@
 -- What a path of the numbers of a list says of its names.
 use Rattle.std.proofs.Common.{◌≡◌, ℕ, ℤ, nat_eq, eq-eqb, if◌then◌else◌, true, false, refl, sym, subst, ap, Bool, List, [], ◌∷◌, length, map}
-use Rattle.std.specs.Prelude.{Option, Some, None, MatchOption, Vec}
-use Rattle.std.specs.Borrow.{Bor}
 use Rattle.std.specs.Cmp.{IsEquivalence}
-use Rattle.std.specs.Option.{option_map}
 use Rattle.pf_base.specs.Loops.{HasNoLoop, IsBestLoop}
-use Rattle.pf_base.specs.NodeRefs.{nodes_of}
-use Rattle.pf_base.specs.Successors.{HasSuccessor, IsFewestEdgesGoalPath}
-use Rattle.pf_base.specs.Walks.{HasNoGoalWalk, IsGoalPath}
+use Rattle.pf_base.specs.Successors.{HasSuccessor}
+use Rattle.pf_base.specs.Walks.{IsGoalPath}
 use Rattle.pf_tables.specs.Graphs.{successors_of}
 use Rattle.pf_edge_lists.specs.EdgeLists.{NamesAndEdges, names_of, places_of, targets_from}
-use Rattle.pf_edge_lists.proofs.NameWalks.{carried_next, fewest_out, goal_named, none_out, path_out}
+use Rattle.pf_edge_lists.proofs.NameWalks.{carried_next, goal_named, path_out}
 use Rattle.pf_name_numbers.specs.Numbered.{names_with}
 use Rattle.pf_name_numbers.proofs.NameReach.{one_start}
 use Rattle.pf_name_numbers.proofs.NamedNumbers.{With, name_at, named_at, targets_with, with_apart, zip_named}
@@ -18,14 +14,6 @@ use Rattle.pf_name_searches.proofs.LoopNames.{best_named, best_out, no_loop_out}
 use Rattle.pf_name_searches.proofs.TreeNames.{first_out}
 use Rattle.pf_search.specs.Preorder.{IsFirstTreePath}
 use borrow.Author.Tests.{eqb-true}
-
--- the names of what is answered
-pub answered : {N A : Type 0} (name : ℕ → N) (answer : Option (Vec (Bor N) A)) (path : Option (Vec ℕ A)) → option_map (λ names. nodes_of names.items) answer ≡ option_map (λ numbers. map name numbers.items) path
-    → (PM PN : Type 0) (QM : Vec ℕ A → Type 0) (QN : List N → Type 0) → (PM → PN) → ((w : Vec ℕ A) → QM w → QN (map name w.items)) → MatchOption path PM QM → MatchOption answer PN (λ names. QN (nodes_of names.items))
-answered name None None e PM PN QM QN none some h = none h
-answered name None (Some w) e PM PN QM QN none some h = cc
-answered name (Some v) None e PM PN QM QN none some h = cc
-answered name (Some v) (Some w) e PM PN QM QN none some h = let f : nodes_of v.items ≡ map name w.items = cc in subst QN (sym f) (some w h)
 
 module _ {N C : Type 0} {eq : N → N → Bool} (laws : IsEquivalence eq) (value : C → ℤ) (list : NamesAndEdges N C) (from : N) (start : ℕ) (begins : With laws list from start from) where
   abbrev pub NextM : ℕ → List ℕ
@@ -44,14 +32,6 @@ module _ {N C : Type 0} {eq : N → N → Bool} (laws : IsEquivalence eq) (value
       best_out laws (names_with eq list from) (with_apart laws list from) NextM NextN (targets_with laws list from value) (start ∷ []) (from ∷ []) begin w (map (name_at eq list from) w) (zip_named laws list from w v.0 v.1) b
 
   module _ (testM : ℕ → Bool) (testN : N → Bool) (tests : (k : ℕ) (x : N) → With laws list from k x → testM k ≡ testN x) where
-    pub no_way_by_name : HasNoGoalWalk nat_eq (HasSuccessor nat_eq NextM) (start ∷ []) testM → HasNoGoalWalk eq (HasSuccessor eq NextN) (from ∷ []) testN
-    no_way_by_name = none_out laws (names_with eq list from) (with_apart laws list from) _ _ (carried_next laws (names_with eq list from) (with_apart laws list from) NextM NextN (targets_with laws list from value)) start from begins testM testN tests
-
-    pub fewest_by_name : (w : List ℕ) → IsFewestEdgesGoalPath nat_eq NextM (start ∷ []) testM w → IsFewestEdgesGoalPath eq NextN (from ∷ []) testN (map (name_at eq list from) w)
-    fewest_by_name w b =
-        let v = goal_named laws (names_with eq list from) (with_apart laws list from) _ _ (carried_next laws (names_with eq list from) (with_apart laws list from) NextM NextN (targets_with laws list from value)) start from begins testM w b.goes.goes in
-        fewest_out laws (names_with eq list from) (with_apart laws list from) NextM NextN (targets_with laws list from value) start from begins testM testN tests w (map (name_at eq list from) w) (zip_named laws list from w v.0 v.1) b
-
     pub path_by_name : (w : List ℕ) → IsGoalPath nat_eq (HasSuccessor nat_eq NextM) (start ∷ []) testM w → IsGoalPath eq (HasSuccessor eq NextN) (from ∷ []) testN (map (name_at eq list from) w)
     path_by_name w b =
         let c = carried_next laws (names_with eq list from) (with_apart laws list from) NextM NextN (targets_with laws list from value) in

@@ -7,10 +7,10 @@ ghost use Rattle.pf_base.specs.Walks.{HasNoGoalWalk, IsGoalPath};
 ghost use Rattle.pf_edge_lists.specs.EdgeLists.{targets_from};
 ghost use Rattle.pf_search.specs.Preorder.{IsFirstTreePath};
 
-use crate::named_path::named_path;
 use pf_base::{Cost, PathError};
 use pf_edge_lists::EdgeList;
 use pf_name_numbers::numbers::{goal_of, number_or_next};
+use pf_name_numbers::paths::named_path;
 use std::alloc::Allocator;
 use std::hash::Hash;
 

@@ -3,7 +3,6 @@
 
 mod depth;
 mod loops;
-mod named_path;
 mod parents;
 
 pub use crate::depth::{dfs, iddfs};

@@ -5,10 +5,10 @@ ghost use Rattle.pf_base.specs.Loops.{HasNoLoop, IsBestLoop};
 ghost use Rattle.pf_base.specs.NodeRefs.{nodes_of};
 ghost use Rattle.pf_edge_lists.specs.EdgeLists.{targets_from};
 
-use crate::named_path::named_path;
 use pf_base::{Cost, PathError};
 use pf_edge_lists::EdgeList;
 use pf_name_numbers::numbers::number_or_next;
+use pf_name_numbers::paths::named_path;
 use pf_utils::NodeRefs;
 use std::alloc::Allocator;
 use std::hash::Hash;

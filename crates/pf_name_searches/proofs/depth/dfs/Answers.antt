@@ -4,7 +4,8 @@ use Rattle.pf_base.specs.Successors.{HasSuccessor}
 use Rattle.pf_base.specs.Walks.{IsGoalPath}
 use Rattle.pf_edge_lists.specs.EdgeLists.{targets_from}
 use Rattle.pf_name_numbers.proofs.NamedNumbers.{name_at}
-use Rattle.pf_name_searches.proofs.PathByName.{answered, no_way_by_name, path_by_name, tree_by_name}
+use Rattle.pf_name_numbers.proofs.AnswersByName.{answered, no_way_by_name}
+use Rattle.pf_name_searches.proofs.PathByName.{path_by_name, tree_by_name}
 use Rattle.pf_search.specs.Preorder.{IsFirstTreePath}
 use Rattle.pf_name_searches.proofs.depth.dfs.Goals as goal
 

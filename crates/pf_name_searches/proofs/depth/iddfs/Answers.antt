@@ -3,7 +3,7 @@ use Rattle.std.proofs.lemmas.Result.{IfOk-weaker}
 use Rattle.pf_base.specs.Successors.{IsFewestEdgesGoalPath}
 use Rattle.pf_edge_lists.specs.EdgeLists.{targets_from}
 use Rattle.pf_name_numbers.proofs.NamedNumbers.{name_at}
-use Rattle.pf_name_searches.proofs.PathByName.{answered, fewest_by_name, no_way_by_name}
+use Rattle.pf_name_numbers.proofs.AnswersByName.{answered, fewest_by_name, no_way_by_name}
 use Rattle.pf_name_searches.proofs.depth.iddfs.Goals as goal
 
 pub returns-clause-best : goal.returns-clause-best

@@ -3,7 +3,8 @@ use Rattle.std.proofs.lemmas.Result.{IfOk-weaker}
 use Rattle.pf_base.specs.Loops.{IsBestLoop}
 use Rattle.pf_edge_lists.specs.EdgeLists.{targets_from}
 use Rattle.pf_name_numbers.proofs.NamedNumbers.{name_at}
-use Rattle.pf_name_searches.proofs.PathByName.{answered, loop_by_name, no_loop_by_name}
+use Rattle.pf_name_numbers.proofs.AnswersByName.{answered}
+use Rattle.pf_name_searches.proofs.PathByName.{loop_by_name, no_loop_by_name}
 use Rattle.pf_name_searches.proofs.loops.bfs_loop.Goals as goal
 
 pub returns-clause-best : goal.returns-clause-best

@@ -1,0 +1,2 @@
+pub mod NameEstimateLemmas
+pub mod NameFaults

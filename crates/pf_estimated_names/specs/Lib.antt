@@ -1,0 +1,2 @@
+pub mod EstimatesByName
+pub mod Internal

@@ -1,0 +1,3 @@
+pub mod OverflowNames
+pub mod CheapestPathNames
+pub mod SearchNames

@@ -1,0 +1,10 @@
+//! Searches of graphs of edges between names, by name, that an estimate of the cost that remains leads.
+//! A call asks no proof of its caller.
+#![tactic(auto)]
+
+mod paths;
+mod searches;
+
+pub use crate::paths::astar_bag_collect;
+pub use crate::searches::{astar, fringe, idastar};
+pub use pf_estimated_names::{NameEstimateError, NameEstimates};
