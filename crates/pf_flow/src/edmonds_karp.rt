@@ -17,15 +17,10 @@ pub use crate::sparse_capacity::SparseCapacity;
 pub use crate::tables::{IntoMatrix, IntoVec};
 use pf_base::{PathError, SignedCost, Tally};
 use pf_matrix::Matrix;
+pub use pf_residual::names::{EKFlows, Edge};
 pub use pf_residual::store::FlowStore;
 use pf_residual::sums::sum_of_capacities;
-use std::alloc::{Allocator, Global};
-
-/// A capacity or a flow from one vertex to another.
-pub type Edge<N, C> = ((N, N), C);
-
-/// The flows above zero, the total, and the edges of a least cut.
-pub type EKFlows<N, C, A = Global> = (Vec<Edge<N, C>, A>, C, Vec<Edge<N, C>, A>);
+use std::alloc::Allocator;
 
 /// Greatest flows from a source to a sink under capacities that change, over any `FlowStore`.
 ///
