@@ -2,23 +2,22 @@
 
 ghost use Rattle.std.specs.Prelude.{◌≡◌, ◌⊎◌, ◌<◌, ◌++◌, ◌∷◌, [], List, true, length, pos, OnOk, IfOk, IfErr};
 ghost use Rattle.std.specs.Iterator.{IsFiniteIterable};
-ghost use Rattle.std.specs.List.{AllZip};
 ghost use Rattle.pf_base.specs.declared.error.PathError.TheVariants.{OutOfMemory, UnknownVertex};
 ghost use Rattle.pf_residual.specs.Networks.{KeepsShape, HasCapacities, IsFresh, capacity_sum};
-ghost use Rattle.pf_residual.specs.Internal.HeldEdges.{RunBelow, IsNamedAnswer, HoldsEdges, HoldsGivenEdges};
+ghost use Rattle.pf_residual.specs.Internal.HeldEdges.{HoldsEdges, HoldsGivenEdges};
 ghost use Rattle.pf_base.specs.Places.{number_of};
-ghost use Rattle.pf_residual.specs.NamedNetworks.{names_of, IsKnown, IsNamed, IsFirstRefused, GivenEdges, AreEdgesRefused, IsAnsweredFor, IsRefusedFor};
+ghost use Rattle.pf_residual.specs.NamedNetworks.{names_of, IsKnown, IsFirstRefused, GivenEdges, AreEdgesRefused, IsAnsweredFor, IsRefusedFor};
 ghost use Rattle.pf_residual.specs.Internal.Filling.{IsUnused};
 
 use crate::dense_capacity::DenseCapacity;
 use crate::edmonds_karp::{EKFlows, Edge, EdmondsKarp};
 use crate::makers::put_capacity;
 use crate::sparse_capacity::SparseCapacity;
-use indexmap::IndexSet;
 use pf_base::{PathError, SignedCost};
+use pf_residual::names::{Names, known_number, name_answer, names_among};
 use pf_residual::store::FlowStore;
 use std::alloc::Allocator;
-use std::hash::{BuildHasherDefault, FoldHasher, Hash};
+use std::hash::Hash;
 
 /// Edges between vertices with names, each with a capacity, that are given in turn: every iterable of
 /// them. Contracts speak of edges by it, and no caller has to name it.
@@ -39,39 +38,6 @@ where
     ghost given = { λ names edges. record { eq = N.eq; value = C.value; fits = C.fits; names = names; Edges = IC.IntoIter; becomes = IC.into_iter_gives edges; steps = IC.IntoIter.next_gives } };
 
     fn as_named_edges(&self) {}
-}
-
-/// Vertices, each once, in the order in which they first stand; the place of a vertex is its number.
-type Names<N, A> = IndexSet<N, BuildHasherDefault<FoldHasher>, A>;
-
-/// The vertices, each once.
-fn names_among<N, A>(alloc: A, vertices: &[N]) -> Result<Names<N, A>, PathError>
-where
-    N: Eq + Hash + Copy,
-    A: Allocator + Copy,
-    ensures names { IfOk result (λ names. names.keys ≡ names_of N.eq vertices.now) }
-    ensures refused { IfErr result (λ e. e ≡ OutOfMemory) }
-{
-    let mut names = IndexSet::new(alloc);
-    'vertices: for vertex in vertices {
-        names.insert(*vertex)?;
-    }
-    Ok(names)
-}
-
-/// The number of a vertex.
-fn known_number<N, A>(names: &Names<N, A>, vertex: &N) -> Result<usize, PathError>
-where
-    N: Eq + Hash,
-    A: Allocator + Copy,
-    ensures number { IfOk result (λ number. number ≡ number_of N.eq names.now.keys vertex.now) }
-    ensures known { OnOk result (IsKnown N.eq names.now.keys vertex.now) }
-    ensures refused { IfErr result (λ e. (e ≡ UnknownVertex) × (¬ (IsKnown N.eq names.now.keys vertex.now))) }
-{
-    match names.get_index_of(vertex) {
-        Some(number) => Ok(number),
-        None => Err(PathError::UnknownVertex),
-    }
 }
 
 /// Puts the capacity of an edge in the place of that of its pair of vertices. Given is the sum of all
@@ -130,48 +96,6 @@ where
         sum = put_edge(store, names, sum, edge)?;
     }
     Ok(())
-}
-
-/// Numbered edges with the names of their vertices.
-fn name_edges<N, C, A>(
-    alloc: A,
-    names: &[N],
-    numbered: &[Edge<usize, C>],
-) -> Result<Vec<Edge<N, C>, A>, PathError>
-where
-    N: Copy,
-    C: SignedCost,
-    A: Allocator + Copy,
-    requires inside { RunBelow (length names.now) numbered.now }
-    ensures named { IfOk result (λ edges. AllZip (IsNamed names.now) numbered.now edges.items) }
-    ensures refused { IfErr result (λ e. e ≡ OutOfMemory) }
-{
-    let mut edges = Vec::with_capacity(alloc, numbered.len())?;
-    'numbered: for edge in numbered {
-        let (from, to) = edge.0;
-        edges.push(((names[from], names[to]), edge.1))?;
-    }
-    Ok(edges)
-}
-
-/// Numbered flows, their total and numbered edges, with the names of the vertices.
-fn name_answer<N, C, A>(
-    alloc: A,
-    names: &[N],
-    answer: &EKFlows<usize, C, A>,
-) -> Result<EKFlows<N, C, A>, PathError>
-where
-    N: Copy,
-    C: SignedCost,
-    A: Allocator + Copy,
-    requires flows { RunBelow (length names.now) answer.now.0.items }
-    requires cut { RunBelow (length names.now) answer.now.2.items }
-    ensures named { IfOk result (IsNamedAnswer names.now answer.now) }
-    ensures refused { IfErr result (λ e. e ≡ OutOfMemory) }
-{
-    let flows = name_edges(alloc, names, &answer.0)?;
-    let cut = name_edges(alloc, names, &answer.2)?;
-    Ok((flows, answer.1, cut))
 }
 
 /// Puts the capacities of the edges into a store that has none, and answers a greatest flow in it

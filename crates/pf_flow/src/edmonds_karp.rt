@@ -5,27 +5,22 @@ ghost use Rattle.pf_base.specs.declared.error.PathError.TheVariants.{OutOfMemory
 ghost use Rattle.pf_residual.specs.Flows.{Same};
 ghost use Rattle.pf_residual.specs.Networks.{Network, path_bound, capacity_sum, Agrees, KeepsCapacities, ChangesCapacity, IsNetwork, IsFresh, HasCapacities, HasCutOfTotal};
 ghost use Rattle.pf_residual.specs.Listings.{ListsFlows, IsFlowAnswer};
-ghost use Rattle.pf_residual.specs.Capacities.{square_table, matrix_table, AreSquare, OfSide, FallsByExcess, AreRefused, IsChangeRefused};
+ghost use Rattle.pf_residual.specs.Capacities.{square_table, matrix_table, edge_table, AreSquare, OfSide, FallsByExcess, AreRefused, AreTaken, AreEdgesFaulty, IsChangeRefused};
 
 use crate::augmenting::augment_flow;
 pub use crate::by_names::{edmonds_karp, edmonds_karp_dense, edmonds_karp_sparse};
 use crate::changes::change_capacity;
 pub use crate::dense_capacity::DenseCapacity;
 use crate::listings::list_flows;
-use crate::makers::fill;
+use crate::makers::{fill, put_all};
 pub use crate::sparse_capacity::SparseCapacity;
 pub use crate::tables::{IntoMatrix, IntoVec};
 use pf_base::{PathError, SignedCost, Tally};
 use pf_matrix::Matrix;
+pub use pf_residual::names::{EKFlows, Edge};
 pub use pf_residual::store::FlowStore;
 use pf_residual::sums::sum_of_capacities;
-use std::alloc::{Allocator, Global};
-
-/// A capacity or a flow from one vertex to another.
-pub type Edge<N, C> = ((N, N), C);
-
-/// The flows above zero, the total, and the edges of a least cut.
-pub type EKFlows<N, C, A = Global> = (Vec<Edge<N, C>, A>, C, Vec<Edge<N, C>, A>);
+use std::alloc::Allocator;
 
 /// Greatest flows from a source to a sink under capacities that change, over any `FlowStore`.
 ///
@@ -105,6 +100,37 @@ pub trait EdmondsKarp<C: SignedCost>: FlowStore<C> {
             unreachable!()
         };
         Self::from_matrix(alloc, source, sink, square)
+    }
+
+    /// A store of so many vertices with the capacities of edges between them, without flow. Of several
+    /// edges from one vertex to another the last one counts, and a pair without an edge has the
+    /// capacity zero. Flows and cuts are listed.
+    ///
+    /// # Errors
+    ///
+    /// `UnknownVertex` where source or sink is not below `size`. Then edge by edge, at the first one
+    /// that gives cause: `UnknownVertex` where one of its ends is not below `size`, else
+    /// `NegativeCapacity` where its capacity is below zero, else `CostOverflow` where the sum of all
+    /// capacities with it does not fit. `OutOfMemory` may come in the place of any answer.
+    fn from_edges(
+        alloc: Self::Alloc,
+        size: usize,
+        source: usize,
+        sink: usize,
+        edges: &[Edge<usize, C>],
+    ) -> Result<Self, PathError>
+        ensures fresh { IfOk result (λ s. IsFresh size source sink (Self.network s)) }
+        ensures taken { OnOk result (AreTaken C.value C.fits size (λ a b. pos 0) edges.now) }
+        ensures capacities { IfOk result (λ s. HasCapacities (edge_table C.value edges.now) (Self.network s)) }
+        ensures network { IfOk result (λ s. IsNetwork C.fits (Self.network s)) }
+        ensures refused { IfErr result (AreEdgesFaulty C.value C.fits size source sink edges.now) }
+    {
+        if source >= size || sink >= size {
+            return Err(PathError::UnknownVertex);
+        }
+        let mut store = Self::new(alloc, size, source, sink)?;
+        put_all(&mut store, edges)?;
+        Ok(store)
     }
 
     /// The flows above zero, by rising pair of vertices.

@@ -1,14 +1,16 @@
 //! Stores that are filled with capacities.
 
-ghost use Rattle.std.specs.Prelude.{◌≡◌, ◌<◌, ◌*◌, ◌≤ℤ◌, ◌<ℤ◌, ◌+ℤ◌, ◌-ℤ◌, ℕ, pos, OnOk, IfOk, IfErr, MatchBool, length};
+ghost use Rattle.std.specs.Prelude.{◌≡◌, ◌⊎◌, ◌<◌, ◌*◌, ◌≤ℤ◌, ◌<ℤ◌, ◌+ℤ◌, ◌-ℤ◌, ℕ, pos, OnOk, IfOk, IfErr, MatchBool, length};
+ghost use Rattle.pf_base.specs.declared.error.PathError.TheVariants.{OutOfMemory};
 ghost use Rattle.num_traits.specs.Laws.{Checks};
 ghost use Rattle.pf_residual.specs.Flows.{IsNonNegative, pair_sum};
 ghost use Rattle.pf_base.specs.Sums.{sum_to};
 ghost use Rattle.pf_residual.specs.Networks.{Network, KeepsShape, ChangesCapacity, HasCapacities, capacity_sum};
 ghost use Rattle.pf_base.specs.Places.{number};
-ghost use Rattle.pf_residual.specs.Capacities.{square_table, matrix_table, AreRefused, IsChangeRefused};
+ghost use Rattle.pf_residual.specs.Capacities.{square_table, matrix_table, edge_table, AreRefused, AreTaken, IsChangeRefused, IsFirstFault};
 ghost use Rattle.pf_residual.specs.Internal.Filling.{IsUnused};
 
+use crate::edmonds_karp::Edge;
 use pf_base::cost::arithmetic::is_below;
 use pf_base::{PathError, SignedCost};
 use pf_matrix::Matrix;
@@ -102,6 +104,31 @@ where
     let mut sum = C::zero();
     'places: for place in 0..capacities.len() {
         sum = put_capacity(store, sum, place / size, place % size, capacities[place])?;
+    }
+    Ok(())
+}
+
+/// Puts the capacities of edges in turn into a store that has none.
+pub fn put_all<C, S>(store: &mut S, edges: &[Edge<usize, C>]) -> Result<(), PathError>
+where
+    C: SignedCost,
+    S: FlowStore<C>,
+    requires unused { IsUnused C.fits (S.network store.old) }
+    requires none { HasCapacities (λ a b. pos 0) (S.network store.old) }
+    ensures unused { OnOk result (IsUnused C.fits (S.network store.new)) }
+    ensures shape { OnOk result (KeepsShape (S.network store.old) (S.network store.new)) }
+    ensures taken { OnOk result (AreTaken C.value C.fits (S.network store.old).vertices (λ a b. pos 0) edges.now) }
+    ensures capacities { OnOk result (HasCapacities (edge_table C.value edges.now) (S.network store.new)) }
+    ensures refused { IfErr result (λ e. (e ≡ OutOfMemory) ⊎ IsFirstFault C.value C.fits (S.network store.old).vertices edges.now e) }
+{
+    let size = store.size();
+    let mut sum = C::zero();
+    'edges: for edge in edges {
+        let ((from, to), capacity) = *edge;
+        if from >= size || to >= size {
+            return Err(PathError::UnknownVertex);
+        }
+        sum = put_capacity(store, sum, from, to, capacity)?;
     }
     Ok(())
 }

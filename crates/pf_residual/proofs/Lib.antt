@@ -25,3 +25,4 @@ pub mod PartSums
 pub mod FillLemmas
 pub mod SquareSums
 pub mod NamedLemmas
+pub mod EdgeLemmas

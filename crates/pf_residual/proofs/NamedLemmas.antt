@@ -19,7 +19,7 @@ use Rattle.pf_residual.specs.Internal.Filling.{IsUnused}
 use Rattle.pf_residual.proofs.SumLemmas.{sum_ext}
 use Rattle.pf_residual.proofs.FillLemmas.{replaced_cases}
 
-replaced_ext : (p : Bool) (c x y : ℤ) → x ≡ y → (if p then c else x) ≡ (if p then c else y)
+pub replaced_ext : (p : Bool) (c x y : ℤ) → x ≡ y → (if p then c else x) ≡ (if p then c else y)
 replaced_ext true c x y e = refl
 replaced_ext false c x y e = e
 

@@ -1,7 +1,7 @@
 -- Capacities that are handed in, and when they are refused.
-use Rattle.std.specs.Prelude.{◌≡◌, ◌≤ℤ◌, ◌+ℤ◌, ◌<ℤ◌, ◌<◌, ◌+◌, ◌*◌, ◌⊎◌, ℕ, ℤ, zero, suc, pos, List, [], ◌∷◌, length}
+use Rattle.std.specs.Prelude.{◌≡◌, ◌≤ℤ◌, ◌+ℤ◌, ◌<ℤ◌, ◌<◌, ◌+◌, ◌*◌, ◌⊎◌, ◌++◌, ℕ, ℤ, pos, List, [], ◌∷◌, length, fold, ⊤}
 use Rattle.pf_base.specs.declared.error.PathError.{PathError}
-use Rattle.pf_base.specs.declared.error.PathError.TheVariants.{OutOfMemory, CostOverflow, NegativeCapacity}
+use Rattle.pf_base.specs.declared.error.PathError.TheVariants.{OutOfMemory, UnknownVertex, CostOverflow, NegativeCapacity}
 use Rattle.pf_base.specs.Places.{number}
 use Rattle.pf_matrix.specs.Tables.{Table}
 use Rattle.pf_residual.specs.Flows.{PairTable, pair_sum, replaced, IsNonNegative}
@@ -44,3 +44,48 @@ IsChangeRefused fits N from to c e =
     (e ≡ OutOfMemory)
     ⊎ ((e ≡ NegativeCapacity) × (c <ℤ pos 0))
     ⊎ ((e ≡ CostOverflow) × (pos 0 ≤ℤ c) × (¬ (fits (pair_sum N.vertices (replaced (capacity N) from to c)))))
+
+module _ {C : Type 0} (value : C → ℤ) where
+  -- the table with the capacity of an edge in the place of that of its pair of vertices
+  abbrev pub with_edge : PairTable → (ℕ × ℕ) × C → PairTable
+  with_edge t e = replaced t e.0.0 e.0.1 (value e.1)
+
+  -- the capacities that edges between numbered vertices give in turn: of each pair that of its last edge, and 0 where it has none
+  abbrev pub edge_table : List ((ℕ × ℕ) × C) → PairTable
+  edge_table edges = fold with_edge (λ a b. pos 0) edges
+
+  module _ (fits : ℤ → Type 0) (n : ℕ) where
+    -- after edges that give this table, an edge between vertices below n, whose capacity is not below 0, and with which the sum of all capacities fits
+    pub record IsTaken (t : PairTable) (e : (ℕ × ℕ) × C) : Type 0 where
+      pub from : e.0.0 < n
+      pub to : e.0.1 < n
+      pub above : pos 0 ≤ℤ value e.1
+      pub sum : fits (pair_sum n (with_edge t e))
+
+    -- each edge in turn is such a one
+    abbrev pub AreTaken : PairTable → List ((ℕ × ℕ) × C) → Type 0
+    AreTaken t [] = ⊤
+    AreTaken t (e ∷ es) = IsTaken t e × AreTaken (with_edge t e) es
+
+    -- why an edge is not taken: one of its ends is no vertex, or else its capacity is below 0, or else the sum of all capacities with it does not fit
+    abbrev pub IsEdgeFault : PairTable → (ℕ × ℕ) × C → PathError → Type 0
+    IsEdgeFault t e r =
+        ((r ≡ UnknownVertex) × ((¬ (e.0.0 < n)) ⊎ (¬ (e.0.1 < n))))
+        ⊎ ((r ≡ NegativeCapacity) × (e.0.0 < n) × (e.0.1 < n) × (value e.1 <ℤ pos 0))
+        ⊎ ((r ≡ CostOverflow) × (e.0.0 < n) × (e.0.1 < n) × (pos 0 ≤ℤ value e.1) × (¬ (fits (pair_sum n (with_edge t e)))))
+
+    -- this is why the first edge that is not taken is refused
+    pub record IsFirstFault (edges : List ((ℕ × ℕ) × C)) (r : PathError) : Type 0 where
+      pub before : List ((ℕ × ℕ) × C)
+      pub edge : (ℕ × ℕ) × C
+      pub behind : List ((ℕ × ℕ) × C)
+      pub listed : edges ≡ before ++ edge ∷ behind
+      pub taken : AreTaken (λ a b. pos 0) before
+      pub why : IsEdgeFault (edge_table before) edge r
+
+    -- why a source, a sink and edges are refused: for memory, or because source or sink is no vertex, or else for the first edge that is not taken
+    abbrev pub AreEdgesFaulty : ℕ → ℕ → List ((ℕ × ℕ) × C) → PathError → Type 0
+    AreEdgesFaulty source sink edges r =
+        (r ≡ OutOfMemory)
+        ⊎ ((r ≡ UnknownVertex) × ((¬ (source < n)) ⊎ (¬ (sink < n))))
+        ⊎ ((source < n) × (sink < n) × IsFirstFault edges r)

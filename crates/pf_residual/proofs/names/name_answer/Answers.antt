@@ -4,7 +4,7 @@ use Rattle.std.specs.List.{AllZip}
 use Rattle.std.proofs.lemmas.Result.{IfOk-from_err}
 use Rattle.pf_residual.specs.NamedNetworks.{IsNamed}
 use Rattle.pf_base.proofs.Outcomes.{refused_as}
-use Rattle.pf_flow.proofs.by_names.name_answer.Goals as goal
+use Rattle.pf_residual.proofs.names.name_answer.Goals as goal
 
 pub name_edges-requires : goal.name_edges-requires
 name_edges-requires g c = record { inside = λ i e h. c.requires.flows i e (subst (λ xs. slice_get xs i ≡ Some e) c.deref.ensures.value h) }

@@ -5,7 +5,7 @@ use Rattle.indexmap.specs.IndexSet.{insert_key}
 use Rattle.pf_residual.specs.NamedNetworks.{names_of}
 use Rattle.pf_base.proofs.Outcomes.{refused_by}
 use Rattle.std.proofs.lemmas.Result.{IfOk-from_err}
-use Rattle.pf_flow.proofs.by_names.names_among.Goals as goal
+use Rattle.pf_residual.proofs.names.names_among.Goals as goal
 
 pub vertices-preserved : goal.vertices-preserved
 vertices-preserved g c =

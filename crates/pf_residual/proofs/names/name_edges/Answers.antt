@@ -5,7 +5,7 @@ use Rattle.pf_base.proofs.ListLemmas.{at_place, AllZip-append}
 use Rattle.pf_residual.specs.NamedNetworks.{IsNamed}
 use Rattle.std.proofs.lemmas.Result.{IfOk-from_err}
 use Rattle.pf_base.proofs.Outcomes.{refused_by}
-use Rattle.pf_flow.proofs.by_names.name_edges.Goals as goal
+use Rattle.pf_residual.proofs.names.name_edges.Goals as goal
 
 pub bounds-names-from : goal.bounds-names-from
 bounds-names-from g c = (c.requires.inside c.numbered.edge-index c.edge-item.result (at_place c.args.numbered.now c.numbered.edge-index _ _ c.numbered-test.true (sym c.edge-item.is))).0

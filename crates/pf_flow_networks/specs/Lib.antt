@@ -1,0 +1,2 @@
+pub mod NamedFlows
+pub mod Internal
