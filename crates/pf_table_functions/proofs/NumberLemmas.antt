@@ -1,10 +1,10 @@
 -- The numbers by which a search knows the nodes of a table.
-use Rattle.std.proofs.Common.{◌≡◌, ℕ, zero, suc, ◌<◌, ◌≤◌, ◌+◌, ◌-◌, ◌∙◌, refl, sym, ap, subst, arith, inl, inr, Bool, true, false, List, [], ◌∷◌, ◌++◌, length, take, replicate, nat_eq, Option, Some, None}
-use Rattle.std.specs.Prelude.{◌↔◌, slice_get, slice_set}
+use Rattle.std.proofs.Common.{◌≡◌, ℕ, zero, suc, ◌<◌, ◌≤◌, ◌+◌, ◌-◌, ◌∙◌, refl, sym, ap, subst, arith, inl, inr, true, false, List, [], ◌∷◌, ◌++◌, length, take, replicate, nat_eq, Some}
+use Rattle.std.specs.Prelude.{slice_get, slice_set}
 use Rattle.std.specs.List.{IsDistinct, AllByRecursion}
 use Rattle.std.proofs.lemmas.Option.{slice_get_within}
 use Rattle.std.proofs.lemmas.Bool.{ne_eqb}
-use Rattle.pf_base.proofs.ListLemmas.{get_set, get_pushed, get_at_end, get-append, take_get, get_take, none_in}
+use Rattle.pf_base.proofs.ListLemmas.{get_set, get_pushed, get_at_end, get-append, take_get, none_in}
 use Rattle.std.specs.Prelude.{Result, Ok, Err, IfOk, OnOk, OnErr}
 use Rattle.pf_base.specs.declared.error.PathError.{PathError}
 use Rattle.pf_core.specs.Nodes.{AddsNode, StandsFor}

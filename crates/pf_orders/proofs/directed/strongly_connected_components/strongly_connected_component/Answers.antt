@@ -1,4 +1,3 @@
-use Rattle.std.specs.Prelude.{◌∷◌, []}
 use Rattle.pf_orders.proofs.BeginLemmas.{begins}
 use Rattle.pf_orders.proofs.directed.strongly_connected_components.strongly_connected_component.Goals as goal
 

@@ -1,4 +1,4 @@
-use Rattle.std.proofs.Common.{subst, ◌≡◌, ◌++◌, [], ◌∷◌, List, ℕ}
+use Rattle.std.proofs.Common.{subst, ◌≡◌, ◌++◌, [], ◌∷◌}
 use Rattle.pf_table_functions.specs.Internal.Numbers.{AreNumbersOf}
 use Rattle.pf_table_functions.proofs.NumberLemmas.{fewer_numbers, last_inside}
 use Rattle.pf_table_functions.proofs.table_nodes.TableNodes.take_last.Goals as goal
