@@ -5,7 +5,7 @@ pub use pf_name_orders::{
     strongly_connected_component, strongly_connected_components, topological_sort,
     topological_sort_into_groups,
 };
-pub use pf_name_paths::yen;
+pub use pf_name_paths::{YenPaths, yen, yen_paths};
 pub use pf_name_searches::{NameParents, bfs_loop, dfs, dijkstra_all, dijkstra_partial, iddfs};
 pub use pf_name_walks::{
     BfsReachable, DfsReachable, DijkstraReachable, bfs_reach, dfs_reach, dijkstra_reach,

@@ -1,5 +1,5 @@
 -- Clean paths over numbers and over the names that they stand for.
-use Rattle.std.proofs.Common.{◌≡◌, ℕ, ℤ, nat_eq, sym, subst, ◌∙◌, Bool, false, List, [], ◌∷◌}
+use Rattle.std.proofs.Common.{◌≡◌, ℕ, ℤ, nat_eq, refl, sym, subst, ◌∙◌, Bool, false, List, [], ◌∷◌}
 use Rattle.std.specs.Prelude.{All}
 use Rattle.std.specs.Cmp.{IsEquivalence}
 use Rattle.std.specs.List.{AllZip}
@@ -101,3 +101,19 @@ module _ {N : Type 0} {eq : N → N → Bool} (laws : IsEquivalence eq) (names :
           step = step_out laws names distinct edgesM edgesN alike (end_of p.first p.rest) p.next (end_of from r.0) next.0 p.price here next.1 p.step;
           past = p.past;
         }
+
+    -- the names of such a path and step stand for its numbers
+    pub record PastStands (fits : ℤ → Type 0) (p : PathOverflows nat_eq edgesM start testM fits) (q : PathOverflows eq edgesN from testN fits) : Type 0 where
+      pub path : Zip (p.first ∷ p.rest) (q.first ∷ q.rest)
+      pub next : Stands laws names p.next q.next
+      pub cost : q.cost ≡ p.cost
+
+    pub past_stands : (fits : ℤ → Type 0) (p : PathOverflows nat_eq edgesM start testM fits) → PastStands fits p (path_past_out fits p)
+    unfolding path_past_out
+    past_stands fits p =
+        let is_start : start ≡ p.first = eqb-true start p.first p.begins in
+        let s : Stands laws names p.first from = subst (λ (n : ℕ). Stands laws names n from) is_start begins in
+        let r = follows_named laws names distinct _ _ carried p.first from p.rest s p.walks in
+        let here = end_stands laws names p.first from p.rest r.0 s r.1 in
+        let next = carried.named (end_of p.first p.rest) p.next (end_of from r.0) here (p.price, p.step.edge) in
+        record { path = (s, r.1); next = next.1; cost = refl }

@@ -1,2 +1,4 @@
 pub mod CleanNames
 pub mod RankedNames
+pub mod PathWalkNames
+pub mod PathWalkSteps

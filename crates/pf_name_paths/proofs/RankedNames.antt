@@ -27,16 +27,16 @@ module _ {N : Type 0} {eq : N → N → Bool} (laws : IsEquivalence eq) (names :
   abbrev Zip : List ℕ → List N → Type 0
   Zip = AllZip (Stands laws names)
 
-  abbrev GivenM : List (List ℕ × C) → List ℕ → Type 0
+  abbrev pub GivenM : List (List ℕ × C) → List ℕ → Type 0
   GivenM = WasGiven nat_eq edgesM start testM value
 
-  abbrev GivenN : List (List N × C) → List N → Type 0
+  abbrev pub GivenN : List (List N × C) → List N → Type 0
   GivenN = WasGiven eq edgesN from testN value
 
-  abbrev AreNamed : List (List ℕ × C) → Type 0
+  abbrev pub AreNamed : List (List ℕ × C) → Type 0
   AreNamed paths = (p : List ℕ × C) → Contains paths p → Zip p.0 (map name p.0)
 
-  given_out : (paths : List (List ℕ × C)) → AreNamed paths → (w : List ℕ) (v : List N) → Zip w v → GivenM paths w → GivenN (map by_name paths) v
+  pub given_out : (paths : List (List ℕ × C)) → AreNamed paths → (w : List ℕ) (v : List N) → Zip w v → GivenM paths w → GivenN (map by_name paths) v
   given_out paths all w v z g = (by_name g.0, mapped_in by_name paths g.0 g.1, same_out laws names distinct g.0.0 w (map name g.0.0) v (all g.0 g.1) z g.2)
 
   before_out : (p q : List ℕ × C) → MayComeBefore value p q → MayComeBefore value (by_name p) (by_name q)

@@ -1,1 +1,2 @@
 pub mod NamedPaths
+pub mod PathWalks

@@ -1,6 +1,6 @@
 //! The lists that the tests search, and each call with its only right answer.
 
-use crate::walks::{is_breadth, is_by_cost, is_preorder};
+use crate::walks::{is_breadth, is_by_cost, is_preorder, is_ranked};
 use pf_base::PathError;
 use pf_edge_lists::EdgeList;
 use pf_name_orders::{
@@ -69,6 +69,8 @@ pub enum Call {
     PreorderWalk,
     /// `dijkstra_reach`.
     CostWalk,
+    /// `yen_paths`.
+    RankedWalk,
 }
 
 impl Call {
@@ -207,6 +209,7 @@ pub fn is_right<'h>(
         Call::Loop => is_path(bfs_loop(heap, places, &"b"), &["b", "c", "a", "b"]),
         Call::BreadthWalk => is_breadth(heap, places),
         Call::PreorderWalk => is_preorder(heap, places),
+        Call::RankedWalk => is_ranked(heap, places),
         Call::CostWalk => is_by_cost(heap, places),
         Call::Component => Ok(strongly_connected_component(heap, places, &"c")?.len() == 3),
         Call::Components => are_components(strongly_connected_components(heap, places)),

@@ -26,6 +26,7 @@ pub const CALLS: &[Call] = &[
     Call::BreadthWalk,
     Call::PreorderWalk,
     Call::CostWalk,
+    Call::RankedWalk,
 ];
 
 /// How a call ends whose growths are refused from this number on, so many of them, or nothing where its list

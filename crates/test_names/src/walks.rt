@@ -2,6 +2,7 @@
 
 use crate::answers::{Heap, Places};
 use pf_base::PathError;
+use pf_name_paths::yen_paths;
 use pf_name_walks::{bfs_reach, dfs_reach, dijkstra_reach};
 
 /// What came of a walk so far, beside the places that are to come.
@@ -90,4 +91,26 @@ pub fn is_by_cost(heap: Heap<'_>, places: &Places<'_, '_>) -> Result<bool, PathE
         walk.resume();
     }
     Ok(seen.answer()? && cost == 9)
+}
+
+/// Whether the paths from `a` to `c` come by rising cost.
+pub fn is_ranked(heap: Heap<'_>, places: &Places<'_, '_>) -> Result<bool, PathError> {
+    let mut seen = Seen::new(&["b", "c"]);
+    let mut cost = 0u32;
+    let mut walk = yen_paths(heap, places, &"a", &"c")?;
+    for _ in 0..2 {
+        for step in walk.by_ref() {
+            match &step {
+                Ok((path, sum)) => {
+                    cost = cost.saturating_add(*sum);
+                    if let Some(place) = path.get(1) {
+                        seen.note(Ok(**place));
+                    }
+                }
+                Err(refusal) => seen.note(Err(*refusal)),
+            }
+        }
+        walk.resume();
+    }
+    Ok(seen.answer()? && cost == 15)
 }
