@@ -86,6 +86,7 @@ pub use Rattle.pf_flow.specs.SparseRows
 pub use Rattle.pf_flow.specs.SparseStores
 pub use Rattle.pf_flow.specs.DenseStores
 pub use Rattle.pf_flow.specs.NamedNetworks
+pub use Rattle.pf_flow_networks.specs.NamedFlows
 pub use Rattle.pf_routes.specs.Noted
 pub use Rattle.pf_routes.specs.ReadSome
 pub use Rattle.pf_routes.specs.Written

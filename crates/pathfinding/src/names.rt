@@ -1,6 +1,7 @@
 //! Searches by name over the edge lists of `graphs`: `EdgeList` has `dijkstra` and `bfs` as methods, and these
-//! are the others.
+//! are the others; and flows between names.
 
+pub use pf_flow_networks::FlowNetwork;
 pub use pf_name_orders::{
     strongly_connected_component, strongly_connected_components, topological_sort,
     topological_sort_into_groups,

@@ -24,12 +24,12 @@ use std::alloc::Allocator;
 
 /// Greatest flows from a source to a sink under capacities that change, over any `FlowStore`.
 ///
-/// Of a store that `new`, `from_matrix` or `from_vec` made it holds that the flow is feasible, that its
-/// value is the total and not below zero, that there is no flow where source and sink are one, that no
-/// capacity is below zero, and that the sum of all capacities fits their type. Each other call of this
-/// trait asks that, and those that change the store keep it, also where they are refused. The calls of
-/// `FlowStore` do not ask it, and its updates need not keep it. A capacity is the residual capacity of
-/// a pair of vertices and its flow.
+/// Of a store that `new`, `from_matrix`, `from_vec` or `from_edges` made it holds that the flow is
+/// feasible, that its value is the total and not below zero, that there is no flow where source and sink
+/// are one, that no capacity is below zero, and that the sum of all capacities fits their type. Each
+/// other call of this trait asks that, and those that change the store keep it, also where they are
+/// refused. The calls of `FlowStore` do not ask it, and its updates need not keep it. A capacity is the
+/// residual capacity of a pair of vertices and its flow.
 pub trait EdmondsKarp<C: SignedCost>: FlowStore<C> {
     /// The allocator of the store's tables.
     type Alloc: Allocator + Copy;

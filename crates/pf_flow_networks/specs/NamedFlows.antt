@@ -3,10 +3,10 @@ use Rattle.std.specs.Prelude.{◌≡◌, ◌⊎◌, ℕ, ℤ, pos, Bool, List, [
 use Rattle.pf_base.specs.declared.error.PathError.{PathError}
 use Rattle.pf_base.specs.declared.error.PathError.TheVariants.{UnknownVertex}
 use Rattle.pf_base.specs.Places.{number_of}
-use Rattle.pf_flow.specs.Capacities.{IsChangeRefused}
-use Rattle.pf_flow.specs.Listings.{ListsFlows, ListsLeastCut}
-use Rattle.pf_flow.specs.NamedNetworks.{AreNamed, IsKnown}
-use Rattle.pf_flow.specs.Networks.{Network, Agrees, ChangesCapacity, KeepsCapacities}
+use Rattle.pf_residual.specs.Capacities.{IsChangeRefused}
+use Rattle.pf_residual.specs.Listings.{ListsFlows, ListsLeastCut}
+use Rattle.pf_residual.specs.NamedNetworks.{AreNamed, IsKnown}
+use Rattle.pf_residual.specs.Networks.{Network, Agrees, ChangesCapacity, KeepsCapacities}
 
 -- vertices with names, each once, and a network of their numbers: the place of a name is its number
 pub record NamedNetwork (N : Type 0) : Type 0 where

@@ -4,10 +4,10 @@ ghost use Rattle.std.specs.Prelude.{◌≡◌, ◌⊎◌, ◌≤ℤ◌, pos, len
 ghost use Rattle.pf_base.specs.declared.error.PathError.TheVariants.{OutOfMemory, UnknownVertex};
 ghost use Rattle.pf_base.specs.Costs.{LiesBetween};
 ghost use Rattle.pf_base.specs.Places.{number_of};
-ghost use Rattle.pf_flow.specs.Capacities.{FallsByExcess};
-ghost use Rattle.pf_flow.specs.Flows.{Same};
-ghost use Rattle.pf_flow.specs.NamedNetworks.{IsKnown, names_of};
-ghost use Rattle.pf_flow.specs.Networks.{HasCapacities, HasCutOfTotal, IsFresh, IsNetwork, capacity_sum};
+ghost use Rattle.pf_residual.specs.Capacities.{FallsByExcess};
+ghost use Rattle.pf_residual.specs.Flows.{Same};
+ghost use Rattle.pf_residual.specs.NamedNetworks.{IsKnown, names_of};
+ghost use Rattle.pf_residual.specs.Networks.{HasCapacities, HasCutOfTotal, IsFresh, IsNetwork, capacity_sum};
 ghost use Rattle.pf_flow_networks.specs.NamedFlows.{AgreesByName, AreVertices, IsNamedFlowAnswer, IsSetRefused, IsUnknown, KeepsNamedCapacities, ListsNamedFlows, SetsCapacity, flow_between, left_between, named, vertex_of};
 ghost use Rattle.pf_flow_networks.specs.Internal.Whole.{IsWhole};
 

@@ -1,15 +1,19 @@
 -- Names by their numbers, and the lines that links stand for.
-use Rattle.std.proofs.Common.{◌≡◌, ℕ, zero, suc, ◌+◌, ◌<◌, ◌≤◌, List, [], ◌∷◌, ◌++◌, map, length, length-append, refl, sym, ap, ◌∙◌, subst, arith, take, get_or, Bool, true, false, Option, Some, None, Result, Ok, Err, Bor, append_assoc, append-nil}
+use Rattle.std.proofs.Common.{◌≡◌, ℕ, zero, suc, ◌+◌, ◌<◌, ◌≤◌, List, [], ◌∷◌, ◌++◌, map, length, length-append, refl, sym, ap, ◌∙◌, subst, arith, take, get_or, Bool, true, false, Option, Some, None, Result, Ok, Err, Bor, append_assoc, append-nil, ◌||◌}
 use Rattle.std.specs.Prelude.{slice_get, if◌then◌else◌, IfSome}
-use Rattle.std.specs.List.{list_any, position_from, filter_map, AllZip}
+use Rattle.std.specs.List.{list_any, position_from, filter_map, flat_map, AllZip}
 use Rattle.std.specs.Str.{bytes_eq}
 use Rattle.std.proofs.lemmas.Iterator.Adapters.{position_from-zero}
+use Rattle.std.proofs.lemmas.Grind.{flat_map-append}
 use Rattle.std.proofs.lemmas.List.{map-append, take_more}
-use Rattle.indexmap.specs.IndexSet.{insert_key}
+use Rattle.std.proofs.lemmas.List.Sums.{fold-append}
+use Rattle.std.proofs.lemmas.Slice.Eq.{bytes_eq-Decides}
+use Rattle.indexmap.specs.IndexSet.{insert_all, insert_key}
+use Rattle.pf_routes.specs.FlowText.{ends_of, flow_names}
 use Rattle.pf_routes.specs.EdgeText.{Edge, Line, Blank, Holds, Bad, line_of, said_by, is_bad, edge_in, first_bad_or, edge_text}
 use Rattle.pf_routes.specs.Internal.Fields.{lines_left}
-use Rattle.pf_routes.specs.Internal.Links.{name_at, edge_between, edges_between, AllBelow, KeepsNames, IsNumberOf}
-use Rattle.pf_routes.specs.Internal.Parsed.{edge_read, AreEndsOf}
+use Rattle.pf_routes.specs.Internal.Links.{bytes_of, name_at, edge_between, edges_between, AllBelow, KeepsNames, NumbersInTurn, IsNumberOf}
+use Rattle.pf_routes.specs.Internal.Parsed.{edge_read, edges_taken, names_taken, AreEndsOf}
 use Rattle.pf_routes.specs.declared.routes.links.Link.{Link}
 use Rattle.pf_routes.specs.declared.routes.links.Ends.{Ends}
 use Rattle.pf_routes.specs.declared.routes.edge_text.NamedEdge.{NamedEdge}
@@ -48,6 +52,42 @@ keeps-insert old new key e = subst (KeepsNames old) (sym e) (kept (list_any (λ 
     kept : (known : Bool) → KeepsNames old (if known then old else old ++ key ∷ [])
     kept true = keeps-refl old
     kept false = record { longer = omega (arith, length-append old (key ∷ [])); same = λ n l. name_at-front old (key ∷ []) n l }
+
+any-bytes : (key : Bor (List ℕ)) (names : List (Bor (List ℕ))) → list_any (λ k. bytes_eq key.now k.now) names ≡ list_any (bytes_eq key.now) (bytes_of names)
+any-bytes key [] = refl
+any-bytes key (x ∷ names) = ap (λ b. bytes_eq key.now x.now || b) (any-bytes key names)
+
+-- a name was met
+pub turn-insert : (old new : List (Bor (List ℕ))) (key : Bor (List ℕ)) (name : List ℕ) → key.now ≡ name → new ≡ insert_key (λ a b. bytes_eq a.now b.now) old key → NumbersInTurn old (name ∷ []) new
+turn-insert old new key name is e = subst (λ x. NumbersInTurn old (x ∷ []) new) is (ap bytes_of e ∙ by (list_any (λ k. bytes_eq key.now k.now) old) ∙ ap (λ (b : Bool). if b then bytes_of old else bytes_of old ++ key.now ∷ []) (any-bytes key old))
+  where
+    by : (b : Bool) → bytes_of (if b then old else old ++ key ∷ []) ≡ (if b then bytes_of old else bytes_of old ++ key.now ∷ [])
+    by true = refl
+    by false = map-append (λ k. k.now) old (key ∷ [])
+
+known-any : (names : List (Bor (List ℕ))) (n : ℕ) (name : List ℕ) → n < length names → name_at names n ≡ name → list_any (bytes_eq name) (bytes_of names) ≡ true
+known-any [] n name l e = absurd (omega (arith, l))
+known-any (x ∷ names) zero name l e = ap (λ b. b || list_any (bytes_eq name) (bytes_of names)) ((bytes_eq-Decides name x.now).1 (sym e))
+known-any (x ∷ names) (suc n) name l e = ap (λ b. bytes_eq name x.now || b) (known-any names n name (omega (arith, l)) e) ∙ by (bytes_eq name x.now)
+  where
+    by : (b : Bool) → (b || true) ≡ true
+    by true = refl
+    by false = refl
+
+-- a name was met that has a number
+pub turn-known : (names : List (Bor (List ℕ))) (n : ℕ) (name : List ℕ) → n < length names → name_at names n ≡ name → NumbersInTurn names (name ∷ []) names
+turn-known names n name l e = sym (ap (λ (b : Bool). if b then bytes_of names else bytes_of names ++ name ∷ []) (known-any names n name l e))
+
+-- the names of one edge more are met
+met-more : (ks : List (List ℕ)) (es : List Edge) (f : Edge) → insert_all bytes_eq ks (flat_map ends_of (es ++ f ∷ [])) ≡ insert_all bytes_eq (insert_all bytes_eq ks (flat_map ends_of es)) (ends_of f)
+met-more ks es f = ap (insert_all bytes_eq ks) (flat_map-append ends_of es (f ∷ [])) ∙ fold-append (insert_key bytes_eq) ks (flat_map ends_of es) (ends_of f)
+
+-- the names of edges were met, and then those of one more
+pub turn-more : (start old mid new : List (Bor (List ℕ))) (before after : List Edge) (e : Edge) → after ≡ before ++ e ∷ [] → NumbersInTurn start (flat_map ends_of before) old → NumbersInTurn old (e.from ∷ []) mid → NumbersInTurn mid (e.to ∷ []) new
+    → NumbersInTurn start (flat_map ends_of after) new
+turn-more start old mid new before after e more a b c =
+    c ∙ ap (λ ks. insert_all bytes_eq ks (e.to ∷ [])) b ∙ ap (λ ks. insert_all bytes_eq ks (ends_of e)) a
+    ∙ sym (ap (λ es. insert_all bytes_eq (bytes_of start) (flat_map ends_of es)) more ∙ met-more (bytes_of start) before e)
 
 edge-kept : (old new : List (Bor (List ℕ))) (l : Link) → KeepsNames old new → l.source < length old → l.target < length old → edge_between new l ≡ edge_between old l
 edge-kept old new l kept s t =
@@ -157,3 +197,34 @@ says-edge line found e rest next here s all at says holds before =
 pub says-bad : (line : ℕ) (found : List Edge) (rest : Option (Bor (List ℕ))) (here : Bor (List ℕ)) (more : List Line) (all : Result (List Edge) ℕ) → rest ≡ Some here
     → said_by here.now ≡ Bad ∷ more → text_from line found (said_left rest) ≡ all → all ≡ Err (line + 1)
 says-bad line found rest here more all at says before = sym before ∙ ap (text_from line found) (said_left-some rest here at ∙ says)
+
+-- one edge more waits
+pub waits-more : (names : List (Bor (List ℕ))) (waiting more : List NamedEdge) (e : NamedEdge) → more ≡ waiting ++ e ∷ [] → names_taken names more ≡ insert_all bytes_eq (names_taken names waiting) (ends_of (edge_read e))
+waits-more names waiting more e is = ap (names_taken names) is ∙ ap (λ es. insert_all bytes_eq (bytes_of names) (flat_map ends_of es)) (map-append edge_read waiting (e ∷ [])) ∙ met-more (bytes_of names) (map edge_read waiting) (edge_read e)
+
+-- those that waited are linked
+pub waits-none : (old new : List (Bor (List ℕ))) (waiting none : List NamedEdge) → none ≡ [] → NumbersInTurn old (flat_map ends_of (map edge_read waiting)) new → names_taken new none ≡ names_taken old waiting
+waits-none old new waiting none is met = ap (names_taken new) is ∙ met
+
+-- the names were met of all edges that were taken
+abbrev pub HasMet : List (Bor (List ℕ)) → List (Bor (List ℕ)) → List Link → List NamedEdge → Type 0
+HasMet start names links waiting = names_taken names waiting ≡ insert_all bytes_eq (bytes_of start) (flat_map ends_of (edges_taken names links waiting))
+
+pub met-start : (names : List (Bor (List ℕ))) (links : List Link) (waiting : List NamedEdge) → links ≡ [] → waiting ≡ [] → HasMet names names links waiting
+met-start names links waiting l w = subst (λ ls. HasMet names names ls waiting) (sym l) (subst (HasMet names names []) (sym w) refl)
+
+pub met-edge : (start old new : List (Bor (List ℕ))) (links all : List Link) (waiting left : List NamedEdge) (e : Edge) → HasMet start old links waiting → names_taken new left ≡ insert_all bytes_eq (names_taken old waiting) (ends_of e)
+    → edges_taken new all left ≡ edges_taken old links waiting ++ e ∷ [] → HasMet start new all left
+met-edge start old new links all waiting left e h met taken =
+    met ∙ ap (λ ks. insert_all bytes_eq ks (ends_of e)) h
+    ∙ sym (ap (λ es. insert_all bytes_eq (bytes_of start) (flat_map ends_of es)) taken ∙ met-more (bytes_of start) (edges_taken old links waiting) e)
+
+pub met-end : (start old new : List (Bor (List ℕ))) (links all : List Link) (waiting : List NamedEdge) → HasMet start old links waiting → NumbersInTurn old (flat_map ends_of (map edge_read waiting)) new → edges_between new all ≡ edges_taken old links waiting
+    → NumbersInTurn start (flat_map ends_of (edges_between new all)) new
+met-end start old new links all waiting h met taken = met ∙ h ∙ ap (λ es. insert_all bytes_eq (bytes_of start) (flat_map ends_of es)) (sym taken)
+
+-- two names were met, and then those of edges
+pub met_in_turn : (none : List (Bor (List ℕ))) (first second all : List (List ℕ)) (from to : List ℕ) (edges : List Edge) → none ≡ [] → first ≡ insert_key bytes_eq (bytes_of none) from → second ≡ insert_key bytes_eq first to
+    → all ≡ insert_all bytes_eq second (flat_map ends_of edges) → all ≡ flow_names from to edges
+met_in_turn none first second all from to edges n a b c =
+    c ∙ ap (λ ks. insert_all bytes_eq ks (flat_map ends_of edges)) (b ∙ ap (λ ks. insert_key bytes_eq ks to) (a ∙ ap (λ ks. insert_key bytes_eq (bytes_of ks) from) n))

@@ -1,5 +1,6 @@
 mod counted;
 mod names;
+mod networks;
 mod plain;
 mod refusals;
 mod rows;

@@ -1,6 +1,6 @@
 -- What each call of a network of named vertices keeps.
 use Rattle.std.specs.Prelude.{◌≡◌, ℤ, true, length}
-use Rattle.pf_flow.specs.Networks.{IsNetwork}
+use Rattle.pf_residual.specs.Networks.{IsNetwork}
 use Rattle.pf_flow_networks.specs.NamedFlows.{NamedNetwork}
 
 -- each vertex has a name, the network is one, and flows and cuts are listed

@@ -1,6 +1,8 @@
 -- Links between numbered names.
 use Rattle.std.specs.Prelude.{◌≡◌, ℕ, ◌<◌, ◌≤◌, ◌==◌, List, [], filter, map, length, All, slice_index_or, Option, IfSome}
 use Rattle.std.specs.Borrow.{Bor}
+use Rattle.std.specs.Str.{bytes_eq}
+use Rattle.indexmap.specs.IndexSet.{insert_all}
 use Rattle.pf_routes.specs.EdgeText.{Edge}
 use Rattle.pf_routes.specs.declared.routes.links.Link.{Link}
 
@@ -27,6 +29,10 @@ AllBelow count links = All (λ l. (l.source < count) × (l.target < count)) link
 pub record KeepsNames (old new : List (Bor (List ℕ))) : Type 0 where
   pub longer : length old ≤ length new
   pub same : (n : ℕ) → n < length old → name_at new n ≡ name_at old n
+
+-- the names after these were met in turn: each that was new came behind the others
+abbrev pub NumbersInTurn : List (Bor (List ℕ)) → List (List ℕ) → List (Bor (List ℕ)) → Type 0
+NumbersInTurn old met new = bytes_of new ≡ insert_all bytes_eq (bytes_of old) met
 
 -- the number, where there is one, is that of the name
 abbrev pub IsNumberOf : List (Bor (List ℕ)) → List ℕ → Option ℕ → Type 0

@@ -5,7 +5,8 @@ use Rattle.std.specs.List.{IsDistinct}
 use Rattle.std.specs.Str.{bytes_eq}
 use Rattle.pf_routes.specs.EdgeText.{Edge, edge_text}
 use Rattle.pf_routes.specs.Internal.Graph.{row_of, node_count}
-use Rattle.pf_routes.specs.Internal.Links.{name_at, edges_between, AllBelow, steps_from}
+use Rattle.pf_routes.specs.FlowText.{flow_names}
+use Rattle.pf_routes.specs.Internal.Links.{bytes_of, name_at, edges_between, AllBelow, steps_from}
 use Rattle.pf_routes.specs.Internal.NameTable.{HoldsNames}
 use Rattle.pf_routes.specs.declared.routes.links.Link.{Link}
 use Rattle.pf_routes.specs.declared.routes.network.Linked.{Linked}
@@ -37,6 +38,7 @@ pub record NumbersEdges {A : Type 0} (linked : Linked A) (first last : ℕ) (edg
   pub to_within : last < length names
   pub from_named : name_at names first ≡ from
   pub to_named : name_at names last ≡ to
+  pub in_turn : bytes_of names ≡ flow_names from to edges
 
 -- the nodes of the network are numbers of names, its steps are these edges, and its two ends are these names
 pub record IsNetworkOf {A : Type 0} (network : Network A) (edges : List Edge) (from to : List ℕ) : Type 0 where

@@ -1,7 +1,11 @@
 -- What the code's own types say, in the words of the text.
 use Rattle.std.specs.Prelude.{◌≡◌, ℕ, List, ◌++◌, map, Option, Some, None, Ok, Err, ⊤}
 use Rattle.std.specs.Borrow.{Bor}
-use Rattle.pf_routes.specs.Internal.Links.{edges_between, IsNumberOf}
+use Rattle.std.specs.List.{flat_map}
+use Rattle.std.specs.Str.{bytes_eq}
+use Rattle.indexmap.specs.IndexSet.{insert_all}
+use Rattle.pf_routes.specs.FlowText.{ends_of}
+use Rattle.pf_routes.specs.Internal.Links.{bytes_of, edges_between, IsNumberOf}
 use Rattle.pf_routes.specs.declared.routes.links.Link.{Link}
 use Rattle.pf_routes.specs.declared.routes.links.Ends.{Ends}
 use Rattle.pf_routes.specs.EdgeText.{Edge, Line, Blank, Holds, edge_text}
@@ -27,6 +31,10 @@ AreEndsOf names edge ends = IsNumberOf names edge.from.now ends.from × IsNumber
 -- the edges of the links, and behind them those that wait for the numbers of their names
 abbrev pub edges_taken : List (Bor (List ℕ)) → List Link → List NamedEdge → List Edge
 edges_taken names links waiting = edges_between names links ++ map edge_read waiting
+
+-- the names, and behind them those of edges that wait for their numbers
+abbrev pub names_taken : List (Bor (List ℕ)) → List NamedEdge → List (List ℕ)
+names_taken names waiting = insert_all bytes_eq (bytes_of names) (flat_map ends_of (map edge_read waiting))
 
 -- why a text gave no edges: its first bad line, or no memory
 abbrev pub RefusesText : RouteError → List ℕ → Type 0

@@ -1,10 +1,13 @@
 //! Edges as links between numbered names.
 
 ghost use Rattle.std.specs.Prelude.{◌≡◌, ◌<◌, ◌≤◌, [], ◌∷◌, ◌++◌, map, length, Ok, IfOk, OnOk, IfErr, IsTrue};
-ghost use Rattle.std.specs.List.{AllZip};
+ghost use Rattle.std.specs.List.{AllZip, flat_map};
+ghost use Rattle.std.specs.Str.{bytes_eq};
+ghost use Rattle.indexmap.specs.IndexSet.{insert_all};
 ghost use Rattle.pf_routes.specs.EdgeText.{edge_text};
-ghost use Rattle.pf_routes.specs.Internal.Links.{name_at, edges_between, AllBelow, KeepsNames, IsNumberOf};
-ghost use Rattle.pf_routes.specs.Internal.Parsed.{RefusesText, edge_read, edges_taken, AreEndsOf};
+ghost use Rattle.pf_routes.specs.FlowText.{ends_of};
+ghost use Rattle.pf_routes.specs.Internal.Links.{name_at, edges_between, AllBelow, KeepsNames, NumbersInTurn, IsNumberOf};
+ghost use Rattle.pf_routes.specs.Internal.Parsed.{RefusesText, edge_read, edges_taken, names_taken, AreEndsOf};
 
 use crate::routes::edge_text::{NamedEdge, ReadLine, read_line};
 use crate::routes::name::Name;
@@ -48,6 +51,7 @@ pub(crate) fn number<'a, S: BuildHasher, A: Allocator + Copy>(
     ensures within { IfOk result (λ n. n < length names.new.keys) }
     ensures named { IfOk result (λ n. name_at names.new.keys n ≡ name.now) }
     ensures kept { OnOk result (KeepsNames names.old.keys names.new.keys) }
+    ensures met { OnOk result (NumbersInTurn names.old.keys (name.now ∷ []) names.new.keys) }
 {
     let (n, _) = names.insert_full(Name::new(name))?;
     Ok(n)
@@ -138,6 +142,7 @@ fn number_near<'a, S: BuildHasher, A: Allocator + Copy>(
     ensures within { IfOk result (λ n. n < length names.new.keys) }
     ensures named { IfOk result (λ n. name_at names.new.keys n ≡ name.now.now) }
     ensures kept { OnOk result (KeepsNames names.old.keys names.new.keys) }
+    ensures met { OnOk result (NumbersInTurn names.old.keys (name.now.now ∷ []) names.new.keys) }
 {
     if is_named(names, first, name) {
         return Ok(first);
@@ -161,6 +166,7 @@ fn number_unless_known<'a, S: BuildHasher, A: Allocator + Copy>(
     ensures within { IfOk result (λ n. n < length names.new.keys) }
     ensures named { IfOk result (λ n. name_at names.new.keys n ≡ name.now.now) }
     ensures kept { OnOk result (KeepsNames names.old.keys names.new.keys) }
+    ensures met { OnOk result (NumbersInTurn names.old.keys (name.now.now ∷ []) names.new.keys) }
 {
     match known {
         Some(n) => Ok(n),
@@ -194,6 +200,7 @@ fn link_all<'a, S: BuildHasher, A: Allocator + Copy>(
     ensures edges { OnOk result (edges_between names.new.keys links.new.items ≡ edges_between names.old.keys links.old.items ++ map edge_read edges.now) }
     ensures below { OnOk result (AllBelow (length names.new.keys) links.new.items) }
     ensures kept { OnOk result (KeepsNames names.old.keys names.new.keys) }
+    ensures met { OnOk result (NumbersInTurn names.old.keys (flat_map ends_of (map edge_read edges.now)) names.new.keys) }
     ensures refused { IfErr result (λ e. e ≡ RouteError.OutOfMemory) }
 {
     // Most names are known. These look-ups change nothing, and do not wait for one another.
@@ -224,6 +231,7 @@ fn take_edge<'a, S: BuildHasher, A: Allocator + Copy>(
     ensures edges { OnOk result (edges_taken names.new.keys links.new.items waiting.new.items ≡ edges_taken names.old.keys links.old.items waiting.old.items ++ edge_read edge.entry ∷ []) }
     ensures below { OnOk result (AllBelow (length names.new.keys) links.new.items) }
     ensures kept { OnOk result (KeepsNames names.old.keys names.new.keys) }
+    ensures met { OnOk result (names_taken names.new.keys waiting.new.items ≡ insert_all bytes_eq (names_taken names.old.keys waiting.old.items) (ends_of (edge_read edge.entry))) }
     ensures refused { IfErr result (λ e. e ≡ RouteError.OutOfMemory) }
 {
     waiting.push(edge)?;
@@ -244,6 +252,7 @@ pub(crate) fn read_links<'a, S: BuildHasher, A: Allocator + Copy>(
     ensures edges { IfOk result (λ links. edge_text text.now ≡ Ok (edges_between names.new.keys links.items)) }
     ensures below { IfOk result (λ links. AllBelow (length names.new.keys) links.items) }
     ensures kept { OnOk result (KeepsNames names.old.keys names.new.keys) }
+    ensures met { IfOk result (λ links. NumbersInTurn names.old.keys (flat_map ends_of (edges_between names.new.keys links.items)) names.new.keys) }
     ensures err { IfErr result (λ e. RefusesText e text.now) }
 {
     let mut links = Vec::new(alloc);

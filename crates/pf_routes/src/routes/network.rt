@@ -1,7 +1,9 @@
 //! Edges as a graph of numbered names.
 
-ghost use Rattle.std.specs.Prelude.{IfOk, IfErr, OnOk};
-ghost use Rattle.pf_routes.specs.Internal.Links.{KeepsNames};
+ghost use Rattle.std.specs.Prelude.{◌≡◌, [], IfOk, IfErr, OnOk};
+ghost use Rattle.std.specs.List.{flat_map};
+ghost use Rattle.pf_routes.specs.FlowText.{ends_of};
+ghost use Rattle.pf_routes.specs.Internal.Links.{KeepsNames, NumbersInTurn, edges_between};
 ghost use Rattle.pf_routes.specs.Internal.Parsed.{HoldsOfEdges, RefusesText};
 
 use crate::routes::links::{Link, Names, number, read_links};
@@ -58,6 +60,7 @@ impl<A: Allocator + Copy> Linked<A> {
     ) -> Result<Self, RouteError>
         ensures ok { IfOk result (λ linked. LinksNames linked names.new.keys text.now) }
         ensures kept { OnOk result (KeepsNames names.old.keys names.new.keys) }
+        ensures met { IfOk result (λ linked. NumbersInTurn names.old.keys (flat_map ends_of (edges_between names.new.keys linked.links.items)) names.new.keys) }
         ensures err { IfErr result (λ e. RefusesText e text.now) }
     {
         let links = read_links(alloc, names, text)?;
@@ -65,7 +68,7 @@ impl<A: Allocator + Copy> Linked<A> {
         Ok(Linked { names, links })
     }
 
-    /// The same, with the numbers of two names.
+    /// The same, with the numbers of two names, which are numbered first: no name has a number yet.
     fn read_with_ends_into<'a, S: BuildHasher>(
         alloc: A,
         names: &mut Names<'a, S, A>,
@@ -73,6 +76,7 @@ impl<A: Allocator + Copy> Linked<A> {
         to: &'a [u8],
         text: &'a [u8],
     ) -> Result<(Self, usize, usize), RouteError>
+        requires none { names.old.keys ≡ [] }
         ensures ok { IfOk result (λ r. HoldsOfEdges text.now (λ edges. NumbersEdges r.0 r.1 r.2 edges from.now to.now)) }
         ensures err { IfErr result (λ e. RefusesText e text.now) }
     {

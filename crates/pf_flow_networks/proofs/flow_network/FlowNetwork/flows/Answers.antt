@@ -1,6 +1,6 @@
 use Rattle.std.proofs.Common.{length, sym, subst}
 use Rattle.std.specs.List.{AllZip}
-use Rattle.pf_flow.specs.NamedNetworks.{IsNamed}
+use Rattle.pf_residual.specs.NamedNetworks.{IsNamed}
 use Rattle.pf_residual.specs.Internal.HeldEdges.{RunBelow}
 use Rattle.pf_residual.proofs.NamedLemmas.{flows_inside, ok_gives}
 use Rattle.pf_flow_networks.proofs.flow_network.FlowNetwork.flows.Goals as goal

@@ -1,6 +1,6 @@
 use Rattle.std.proofs.Common.{inr, subst}
 use Rattle.pf_base.specs.Places.{number_of}
-use Rattle.pf_flow.specs.Capacities.{IsChangeRefused}
+use Rattle.pf_residual.specs.Capacities.{IsChangeRefused}
 use Rattle.pf_residual.proofs.NamedLemmas.{err_gives}
 use Rattle.pf_flow_networks.proofs.flow_network.FlowNetwork.set_capacity.Goals as goal
 

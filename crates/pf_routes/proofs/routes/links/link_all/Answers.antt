@@ -2,7 +2,7 @@ use Rattle.std.proofs.Common.{◌<◌, refl, sym, ap, ◌∙◌, arith, length, 
 use Rattle.pf_routes.specs.Internal.Links.{edges_between}
 use Rattle.pf_routes.specs.Internal.Parsed.{edge_read}
 use Rattle.pf_routes.specs.declared.routes.links.Link.{Link}
-use Rattle.pf_routes.proofs.Numbering.{keeps-refl, keeps-trans, edges-push, below-more, below-push, taken-more, number-kept, ends-at, ends-length}
+use Rattle.pf_routes.proofs.Numbering.{keeps-refl, keeps-trans, edges-push, below-more, below-push, taken-more, number-kept, ends-at, ends-length, turn-more}
 use Rattle.pf_routes.proofs.routes.links.link_all.Goals as goal
 
 pub edges-init : goal.edges-init
@@ -10,6 +10,7 @@ edges-init g c = record {
   edges = sym (append-nil (edges_between c.args.names.now.keys c.args.links.now.items));
   below = c.requires.below;
   kept = keeps-refl c.args.names.now.keys;
+  met = refl;
 }
 
 pub index-known-requires : goal.index-known-requires
@@ -44,4 +45,5 @@ edges-preserved g c =
           ∙ ap (λ es. before ++ es) (sym (taken-more c.args.edges.now c.edges.place e c.edges-test.true c.index-edges-place.is));
       below = below-push (length new) c.edges.links.items link (below-more (length old) (length new) c.edges.links.items kept.longer inv.below) source_below second.ensures.within;
       kept = keeps-trans _ _ _ inv.kept kept;
+      met = turn-more c.args.names.now.keys old c.number_unless_known.new.names.keys new (map edge_read (take c.edges.place c.args.edges.now)) _ (edge_read e) (taken-more c.args.edges.now c.edges.place e c.edges-test.true c.index-edges-place.is) inv.met first.ensures.met second.ensures.met;
     })

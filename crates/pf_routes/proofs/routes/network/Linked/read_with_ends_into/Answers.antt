@@ -1,5 +1,6 @@
 use Rattle.std.proofs.Common.{refl, ◌∙◌, arith}
-use Rattle.pf_routes.proofs.Numbering.{keeps-trans}
+use Rattle.pf_routes.specs.Internal.Links.{edges_between}
+use Rattle.pf_routes.proofs.Numbering.{keeps-trans, met_in_turn}
 use Rattle.pf_routes.proofs.routes.network.Linked.read_with_ends_into.Goals as goal
 
 pub returns-clause-ok : goal.returns-clause-ok
@@ -20,5 +21,6 @@ returns-clause-ok g c =
         to_within = omega (arith, second.ensures.within, found.kept.longer);
         from_named = kept.same first.from first.ensures.within ∙ first.ensures.named;
         to_named = found.kept.same second.to second.ensures.within ∙ second.ensures.named;
+        in_turn = met_in_turn c.args.names.now.keys _ _ _ c.args.from.now c.args.to.now (edges_between c.read_into.new.names.keys c.in_ok-linked.linked.links.items) c.requires.none first.ensures.met second.ensures.met found.met;
       },
     )
