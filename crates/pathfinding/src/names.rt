@@ -1,7 +1,8 @@
 //! Searches by name over the edge lists of `graphs`: `EdgeList` has `dijkstra` and `bfs` as methods, and these
 //! are the others; and flows between names.
 
-pub use pf_flow_networks::FlowNetwork;pf_name_both_ends::{bfs_bidirectional, dijkstra_bidirectional};
+pub use pf_flow_networks::FlowNetwork;
+pub use pf_name_both_ends::{bfs_bidirectional, dijkstra_bidirectional};
 pub use pf_name_estimates::{
     NameEstimateError, NameEstimates, astar, astar_bag_collect, fringe, idastar,
 };
