@@ -11,8 +11,10 @@ use Rattle.pf_base.proofs.ListLemmas.{Contains-head, Contains-tail}
 use Rattle.pf_edge_lists.proofs.NameWalks.{Stands, SameEdges, costs_back, costs_out, past_out, test_stands}
 use Rattle.pf_name_numbers.proofs.NameReach.{stands_same}
 use Rattle.pf_yen.specs.CleanPaths.{AllGiven, BranchOverflows, GoesOnTo, IsCleanPath, IsNextPath, LeavesGiven, RefusedFor, WasGiven}
-use Rattle.pf_name_paths.proofs.CleanNames.{clean_back, clean_named, clean_out, past_stands, path_past_out, same_back}
-use Rattle.pf_name_paths.proofs.RankedNames.{given_out, in_mapped, mapped_in}
+use Rattle.pf_name_numbers.proofs.MappedLists.{in_mapped, mapped_in}
+use Rattle.pf_name_numbers.proofs.NameReach.{same_back}
+use Rattle.pf_name_paths.proofs.CleanNames.{clean_back, clean_named, clean_out, past_stands, path_past_out}
+use Rattle.pf_name_paths.proofs.RankedNames.{given_out}
 use borrow.Author.Tests.{eqb-true}
 
 module _ {N : Type 0} {eq : N → N → Bool} (laws : IsEquivalence eq) (names : List N) (distinct : NoRepeats eq names) (name : ℕ → N) (named : (k : ℕ) (x : N) → Stands laws names k x → Stands laws names k (name k)) where

@@ -1,5 +1,6 @@
 //! The lists that the tests search, and each call with its only right answer.
 
+use crate::guided::{is_guided, is_met};
 use crate::walks::{is_breadth, is_by_cost, is_preorder, is_ranked};
 use pf_base::PathError;
 use pf_edge_lists::EdgeList;
@@ -51,6 +52,18 @@ pub enum Call {
     Deepened,
     /// `bfs_loop`.
     Loop,
+    /// `bfs_bidirectional`.
+    Levels,
+    /// `dijkstra_bidirectional`.
+    Meeting,
+    /// `astar`.
+    Estimated,
+    /// `fringe`.
+    Fringe,
+    /// `idastar`.
+    EstimatedDepth,
+    /// `astar_bag_collect`.
+    EstimatedAll,
     /// `strongly_connected_component`.
     Component,
     /// `strongly_connected_components`.
@@ -197,7 +210,7 @@ fn are_components(
 /// Whether a call answers the only right answer.
 pub fn is_right<'h>(
     heap: Heap<'h>,
-    places: &Places<'_, 'h>,
+    places: &Places<'static, 'h>,
     call: Call,
 ) -> Result<bool, PathError> {
     match call {
@@ -207,10 +220,14 @@ pub fn is_right<'h>(
         Call::Depth => is_path(dfs(heap, places, &"a", &"d"), &["a", "b", "d"]),
         Call::Deepened => is_path(iddfs(heap, places, &"a", &"d"), &["a", "b", "d"]),
         Call::Loop => is_path(bfs_loop(heap, places, &"b"), &["b", "c", "a", "b"]),
+        Call::Levels | Call::Meeting => is_met(heap, places, call),
+        Call::Estimated | Call::Fringe | Call::EstimatedDepth | Call::EstimatedAll => {
+            is_guided(heap, places, call)
+        }
         Call::BreadthWalk => is_breadth(heap, places),
         Call::PreorderWalk => is_preorder(heap, places),
-        Call::RankedWalk => is_ranked(heap, places),
         Call::CostWalk => is_by_cost(heap, places),
+        Call::RankedWalk => is_ranked(heap, places),
         Call::Component => Ok(strongly_connected_component(heap, places, &"c")?.len() == 3),
         Call::Components => are_components(strongly_connected_components(heap, places)),
         Call::Order => is_order(heap, topological_sort(heap, places)),

@@ -5,6 +5,8 @@
 #[cfg(test)]
 mod answers;
 #[cfg(test)]
+mod guided;
+#[cfg(test)]
 mod refusals;
 #[cfg(test)]
 mod tests;

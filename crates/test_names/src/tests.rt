@@ -1,6 +1,7 @@
 //! Each call at a concrete type, and names that stand nowhere.
 
 use crate::answers::{Call, Heap, Places, ROUND, are_places, is_path, is_right};
+use crate::guided::{are_guided_alone, are_met_alone};
 use pf_base::PathError;
 use pf_edge_lists::EdgeList;
 use pf_name_orders::strongly_connected_component;
@@ -17,6 +18,12 @@ pub const CALLS: &[Call] = &[
     Call::Depth,
     Call::Deepened,
     Call::Loop,
+    Call::Levels,
+    Call::Meeting,
+    Call::Estimated,
+    Call::Fringe,
+    Call::EstimatedDepth,
+    Call::EstimatedAll,
     Call::Component,
     Call::Components,
     Call::Order,
@@ -87,6 +94,8 @@ fn are_alone(ample: Global) -> bool {
         Ok(round) => {
             matches!(are_ways_alone(&heap, round), Ok(true))
                 && matches!(are_searches_alone(&heap, round), Ok(true))
+                && matches!(are_met_alone(&heap, round), Ok(true))
+                && matches!(are_guided_alone(&heap, round), Ok(true))
         }
         Err(_) => false,
     }
