@@ -10,9 +10,9 @@ ghost use Rattle.pf_core.specs.Nodes.{NodeGraph, IsStep, StandsFor, AddsNode, Nu
 ghost use Rattle.pf_core.specs.Numbered.{NumbersInOrder};
 ghost use Rattle.pf_core.specs.NodeLaws.{Explores-one, StandsFor-inside};
 
-use crate::source::EdgeSource;
-use crate::numbering::Numbering;
 pub use crate::numbering::Nodes;
+use crate::numbering::Numbering;
+use crate::source::EdgeSource;
 use indexmap::IndexSet;
 use pf_base::{Cost, PathError};
 use pf_core::numbered::NumberedGraph;
@@ -76,11 +76,7 @@ where
 }
 
 /// Numbers the node of an edge, and puts the edge at the end of the row.
-fn number_edge<N, M, C, R>(
-    nodes: &mut M,
-    row: &mut R,
-    edge: (N, C),
-) -> Result<(), PathError>
+fn number_edge<N, M, C, R>(nodes: &mut M, row: &mut R, edge: (N, C)) -> Result<(), PathError>
 where
     N: Eq + Drop,
     M: Numbering<Node = N>,
@@ -96,11 +92,7 @@ where
 }
 
 /// Numbers the nodes of an answer. Where memory is refused, the nodes stay as they were.
-fn number_all<N, M, C, S, R>(
-    nodes: &mut M,
-    items: S::Items,
-    row: &mut R,
-) -> Result<(), PathError>
+fn number_all<N, M, C, S, R>(nodes: &mut M, items: S::Items, row: &mut R) -> Result<(), PathError>
 where
     N: Eq + Drop,
     M: Numbering<Node = N>,
