@@ -3,5 +3,6 @@ pub mod LoopLemmas
 pub mod LoopWalks
 pub mod DepthFirstLemmas
 pub mod VisitLemmas
+mod PlaceLemmas
 pub mod ResultLemmas
 pub mod StillLemmas

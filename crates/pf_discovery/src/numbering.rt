@@ -1,12 +1,11 @@
 //! Nodes that are numbered in the order in which they are put in.
 
-ghost use Rattle.std.specs.Prelude.{◌≡◌, List, IfOk, IfErr, length, take};
+ghost use Rattle.std.specs.Prelude.{◌≡◌, ◌<◌, ◌^◌, ℕ, List, IfOk, IfErr, MatchOption, OnErr, length, take};
 ghost use Rattle.std.specs.List.{IsDistinct};
 ghost use Rattle.pf_core.specs.Nodes.{AddsNode, StandsFor};
 
 use indexmap::IndexSet;
-use pf_base::PathError;
-use std::alloc::Allocator;
+use std::alloc::{AllocFailed, Allocator};
 use std::hash::{BuildHasherDefault, FoldHasher, Hash};
 
 /// Nodes in the order in which they were found, each once; the place of a node is its number.
@@ -19,18 +18,27 @@ pub trait Numbering {
 
     /// How many nodes have numbers.
     fn len(&self) -> usize
-        ensures len { result ≡ length (keys self.now) };
+        ensures len { result ≡ length (keys self.now) }
+        ensures small { result < 2 ^ 63 };
 
     /// The nodes that have numbers, in the order of these.
     fn as_slice(&self) -> &[Self::Node]
         ensures keys { result.now ≡ keys self.now }
         ensures unique { IsDistinct Self.Node.eq (keys self.now) };
 
-    /// The number of a node, which is given one if it has none. Where memory is refused, all stays.
-    fn number_of(&mut self, node: Self::Node) -> Result<usize, PathError>
+    /// The number of a node, if it has one.
+    fn get_number_of(&self, node: &Self::Node) -> Option<usize>
+        ensures { MatchOption result
+            ((k : ℕ) → ¬ (StandsFor Self.Node.eq (keys self.now) k node.now))
+            (λ k. StandsFor Self.Node.eq (keys self.now) k node.now) };
+
+    /// The number of a node, which is given one if it has none. Where memory is refused, all stays, and
+    /// the node is handed back.
+    fn number_of(&mut self, node: Self::Node) -> Result<usize, AllocFailed<Self::Node>>
         ensures added { AddsNode Self.Node.eq node (keys self.old) (keys self.new) }
         ensures numbered { IfOk result (λ k. StandsFor Self.Node.eq (keys self.new) k node) }
-        ensures refused { IfErr result (λ e. e ≡ PathError.OutOfMemory) };
+        ensures stays { OnErr result (keys self.new ≡ keys self.old) }
+        ensures returned { IfErr result (λ refusal. refusal.value ≡ node) };
 
     /// Keeps the numbers below `len` alone.
     fn truncate(&mut self, len: usize)
@@ -54,9 +62,15 @@ impl<N: Eq + Hash + Drop, A: Allocator + Copy> Numbering for Nodes<N, A> {
         self.as_slice()
     }
 
-    fn number_of(&mut self, node: N) -> Result<usize, PathError> {
-        let (number, _) = self.insert_full(node)?;
-        Ok(number)
+    fn get_number_of(&self, node: &N) -> Option<usize> {
+        self.get_index_of(node)
+    }
+
+    fn number_of(&mut self, node: N) -> Result<usize, AllocFailed<N>> {
+        match self.insert_full(node) {
+            Ok((number, _)) => Ok(number),
+            Err(refusal) => Err(refusal),
+        }
     }
 
     fn truncate(&mut self, len: usize) {

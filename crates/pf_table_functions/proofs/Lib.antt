@@ -2,3 +2,4 @@ pub mod EdgeLemmas
 mod EndLemmas
 pub mod NumberLemmas
 mod PlaceLemmas
+pub mod TableExplores

@@ -1,10 +1,12 @@
 -- The numbers by which a search knows the nodes of a table.
-use Rattle.std.proofs.Common.{◌≡◌, ℕ, zero, suc, ◌<◌, ◌≤◌, ◌+◌, ◌-◌, ◌∙◌, refl, sym, ap, subst, arith, inl, inr, true, false, List, [], ◌∷◌, ◌++◌, length, take, replicate, nat_eq, Some}
-use Rattle.std.specs.Prelude.{slice_get, slice_set}
-use Rattle.std.specs.List.{IsDistinct, AllByRecursion}
+use Rattle.std.proofs.Common.{◌≡◌, ℕ, zero, suc, ◌<◌, ◌≤◌, ◌+◌, ◌-◌, ◌^◌, ◌∙◌, refl, sym, ap, subst, arith, inl, inr, true, false, List, [], ◌∷◌, ◌++◌, length, take, replicate, nat_eq, Some}
+use Rattle.std.specs.Prelude.{slice_get, slice_set, MatchOption, Option, None}
+use Rattle.std.specs.List.{IsDistinct, AllByRecursion, position, position_from}
+use Rattle.std.proofs.lemmas.Iterator.Adapters.{position_from-zero}
+use Rattle.std.proofs.lemmas.List.{length-append, length-set}
 use Rattle.std.proofs.lemmas.Option.{slice_get_within}
-use Rattle.std.proofs.lemmas.Bool.{ne_eqb}
-use Rattle.pf_base.proofs.ListLemmas.{get_set, get_pushed, get_at_end, get-append, take_get, none_in}
+use Rattle.std.proofs.lemmas.Bool.{ne_eqb, true≢false}
+use Rattle.pf_base.proofs.ListLemmas.{get_set, get_pushed, get_at_end, get-append, none_in, bool_dec}
 use Rattle.std.specs.Prelude.{Result, Ok, Err, IfOk, OnOk, OnErr}
 use Rattle.pf_base.specs.declared.error.PathError.{PathError}
 use Rattle.pf_core.specs.Nodes.{AddsNode, StandsFor}
@@ -39,108 +41,203 @@ distinct_from (x ∷ xs) h = (behind xs (λ i y s. ne_eqb x y (λ e. no_zero i (
     behind [] g = tt
     behind (y ∷ ys) g = (g 0 y refl, behind ys (λ i z s. g (suc i) z s))
 
-one_place : (numbers nodes : List ℕ) → AreNumbersOf numbers nodes → (i j x : ℕ) → slice_get nodes i ≡ Some x → slice_get nodes j ≡ Some x → i ≡ j
-one_place numbers nodes h i j x s t = one_more i j (some_same _ _ (sym ((h x i).1 s) ∙ (h x j).1 t))
+pub numbers_distinct : (size : ℕ) (numbers nodes : List ℕ) → AreNumbersOf size numbers nodes → IsDistinct nat_eq nodes
+numbers_distinct size numbers nodes h = distinct_from nodes h.once
 
-pub numbers_distinct : (numbers nodes : List ℕ) → AreNumbersOf numbers nodes → IsDistinct nat_eq nodes
-numbers_distinct numbers nodes h = distinct_from nodes (one_place numbers nodes h)
+-- where a node stands among others, if it does
+place_from : (node : ℕ) (nodes : List ℕ) (i : ℕ) → MatchOption (position_from (λ other. nat_eq other node) i nodes) ((k : ℕ) → ¬ (slice_get nodes k ≡ Some node)) (λ p. (j : ℕ) × (p ≡ i + j) × (slice_get nodes j ≡ Some node))
+place_from node [] i = λ k e. none_in k node e
+place_from node (x ∷ xs) i = elim (bool_dec (nat_eq x node)) as (λ _. MatchOption (position_from (λ other. nat_eq other node) i (x ∷ xs)) ((k : ℕ) → ¬ (slice_get (x ∷ xs) k ≡ Some node)) (λ p. (j : ℕ) × (p ≡ i + j) × (slice_get (x ∷ xs) j ≡ Some node))) [
+  | inl e ↦ rw e (0, omega arith, ap Some (nat_same (λ z. z) x node e))
+  | inr e ↦ rw e (behind e (position_from (λ other. nat_eq other node) (i + 1) xs) (place_from node xs (i + 1)))
+]
+  where
+    at : nat_eq x node ≡ false → ((k : ℕ) → ¬ (slice_get xs k ≡ Some node)) → (k : ℕ) → ¬ (slice_get (x ∷ xs) k ≡ Some node)
+    at e h zero s = true≢false (sym (nat_refl node) ∙ subst (λ (z : ℕ). nat_eq z node ≡ false) (some_same x node s) e)
+    at e h (suc k) s = h k s
 
-pub cut_distinct : (numbers nodes : List ℕ) (n : ℕ) → AreNumbersOf numbers nodes → IsDistinct nat_eq (take n nodes)
-cut_distinct numbers nodes n h = distinct_from (take n nodes) (λ i j x s t. one_place numbers nodes h i j x (take_get n nodes i x s) (take_get n nodes j x t))
+    behind : nat_eq x node ≡ false → (r : Option ℕ) → MatchOption r ((k : ℕ) → ¬ (slice_get xs k ≡ Some node)) (λ p. (j : ℕ) × (p ≡ i + 1 + j) × (slice_get xs j ≡ Some node))
+        → MatchOption r ((k : ℕ) → ¬ (slice_get (x ∷ xs) k ≡ Some node)) (λ p. (j : ℕ) × (p ≡ i + j) × (slice_get (x ∷ xs) j ≡ Some node))
+    behind e None h = at e h
+    behind e (Some p) h = (suc h.0, omega (arith, h.1), h.2)
+
+pub place_at : (nodes : List ℕ) (node : ℕ) (r : Option ℕ) → r ≡ position (λ other. nat_eq other node) nodes → MatchOption r ((k : ℕ) → ¬ (slice_get nodes k ≡ Some node)) (λ k. slice_get nodes k ≡ Some node)
+place_at nodes node r e = rw e (rw (position_from-zero (λ other. nat_eq other node) nodes) (from_start (position_from (λ other. nat_eq other node) 0 nodes) (place_from node nodes 0)))
+  where
+    from_start : (q : Option ℕ) → MatchOption q ((k : ℕ) → ¬ (slice_get nodes k ≡ Some node)) (λ p. (j : ℕ) × (p ≡ 0 + j) × (slice_get nodes j ≡ Some node)) → MatchOption q ((k : ℕ) → ¬ (slice_get nodes k ≡ Some node)) (λ k. slice_get nodes k ≡ Some node)
+    from_start None h = h
+    from_start (Some p) h = subst (λ (j : ℕ). slice_get nodes j ≡ Some node) (omega (arith, h.1)) h.2
 
 -- what a number that a search gave stands for, and that a node without one was not found
-pub known_at : (numbers nodes : List ℕ) (node number : ℕ) → AreNumbersOf numbers nodes → slice_get numbers node ≡ Some number → 0 < number → slice_get nodes (number - 1) ≡ Some node
-known_at numbers nodes node number h e some = (h node (number - 1)).0 (e ∙ ap Some (omega (arith, some)))
+pub known_at : (size : ℕ) (numbers nodes : List ℕ) (node number : ℕ) → AreNumbersOf size numbers nodes → node < length numbers → slice_get numbers node ≡ Some number → 0 < number → slice_get nodes (number - 1) ≡ Some node
+known_at size numbers nodes node number h inside e some = (h.numbered node (number - 1) inside).0 (e ∙ ap Some (omega (arith, some)))
 
-pub unknown_at : (numbers nodes : List ℕ) (node number : ℕ) → AreNumbersOf numbers nodes → slice_get numbers node ≡ Some number → ¬ (0 < number) → (k : ℕ) → ¬ (slice_get nodes k ≡ Some node)
-unknown_at numbers nodes node number h e none k s = none (omega (arith, some_same number (k + 1) (sym e ∙ (h node k).1 s)))
+pub unknown_at : (size : ℕ) (numbers nodes : List ℕ) (node number : ℕ) → AreNumbersOf size numbers nodes → node < length numbers → slice_get numbers node ≡ Some number → ¬ (0 < number) → (k : ℕ) → ¬ (slice_get nodes k ≡ Some node)
+unknown_at size numbers nodes node number h inside e none k s = none (omega (arith, some_same number (k + 1) (sym e ∙ (h.numbered node k inside).1 s)))
 
-pub unknown_beyond : (numbers nodes : List ℕ) (node : ℕ) → AreNumbersOf numbers nodes → length numbers ≤ node → (k : ℕ) → ¬ (slice_get nodes k ≡ Some node)
-unknown_beyond numbers nodes node h out k s = omega (arith, out, slice_get_within numbers node _ ((h node k).1 s))
+-- nothing was found
+pub nothing_numbered : (size : ℕ) → AreNumbersOf size [] []
+nothing_numbered size = record {
+  numbered = λ x k inside. absurd (omega (arith, inside));
+  once = λ i j x s t. absurd (none_in i x s);
+  laid = inl refl;
+  few = omega arith;
+}
 
--- no number was given
 none_given : (n x k : ℕ) → slice_get (replicate n 0) x ≡ Some (k + 1) → ⊥
 none_given zero x k e = none_in x (k + 1) e
 none_given (suc n) zero k e = omega (arith, some_same 0 (k + 1) e)
 none_given (suc n) (suc x) k e = none_given n x k e
 
-pub new_numbers : (n : ℕ) → AreNumbersOf (replicate n 0) []
-new_numbers n x k = (λ e. absurd (none_given n x k e), λ e. absurd (none_in k x e))
-
--- more room is given no number
-pub wider_numbers : (numbers nodes : List ℕ) (n : ℕ) → AreNumbersOf numbers nodes → AreNumbersOf (numbers ++ replicate n 0) nodes
-wider_numbers numbers nodes n h x k = (λ e. (h x k).0 (narrow numbers x e), λ e. get-append numbers (replicate n 0) x (k + 1) ((h x k).1 e))
+-- before the first node was found, a number is laid out for each
+pub laid_out : (size : ℕ) (numbers nodes : List ℕ) (n : ℕ) → length numbers < size → AreNumbersOf size numbers nodes → AreNumbersOf size (numbers ++ replicate n 0) nodes
+laid_out size numbers nodes n short h = record {
+  numbered = λ x k inside. (λ e. absurd (nothing x k (narrow numbers x k e)), λ e. absurd (none_in k x (subst (λ (ns : List ℕ). slice_get ns k ≡ Some x) none e)));
+  once = h.once;
+  laid = inl none;
+  few = h.few;
+}
   where
-    narrow : (ms : List ℕ) (y : ℕ) → slice_get (ms ++ replicate n 0) y ≡ Some (k + 1) → slice_get ms y ≡ Some (k + 1)
-    narrow [] y e = absurd (none_given n y k e)
-    narrow (m ∷ ms) zero e = e
-    narrow (m ∷ ms) (suc y) e = narrow ms y e
+    none : nodes ≡ []
+    none = elim h.laid as (λ _. nodes ≡ []) [ inl e ↦ e | inr e ↦ absurd (omega (arith, e, short)) ]
+
+    nothing : (x k : ℕ) → slice_get numbers x ≡ Some (k + 1) → ⊥
+    nothing x k e = none_in k x (subst (λ (ns : List ℕ). slice_get ns k ≡ Some x) none ((h.numbered x k (slice_get_within numbers x (k + 1) e)).0 e))
+
+    narrow : (ms : List ℕ) (y k : ℕ) → slice_get (ms ++ replicate n 0) y ≡ Some (k + 1) → slice_get ms y ≡ Some (k + 1)
+    narrow [] y k e = absurd (none_given n y k e)
+    narrow (m ∷ ms) zero k e = e
+    narrow (m ∷ ms) (suc y) k e = narrow ms y k e
+
+-- a node is found once more nowhere
+found_once : (nodes : List ℕ) (node : ℕ) → ((k : ℕ) → ¬ (slice_get nodes k ≡ Some node)) → ((i j x : ℕ) → slice_get nodes i ≡ Some x → slice_get nodes j ≡ Some x → i ≡ j)
+    → (i j x : ℕ) → slice_get (nodes ++ node ∷ []) i ≡ Some x → slice_get (nodes ++ node ∷ []) j ≡ Some x → i ≡ j
+found_once nodes node absent once i j x s t = elim (get_pushed nodes node i x s) as (λ _. i ≡ j) [
+  | inl p ↦ elim (get_pushed nodes node j x t) as (λ _. i ≡ j) [
+    | inl q ↦ once i j x p.1 q.1
+    | inr q ↦ absurd (absent i (p.1 ∙ ap Some (sym q.1)))
+  ]
+  | inr p ↦ elim (get_pushed nodes node j x t) as (λ _. i ≡ j) [
+    | inl q ↦ absurd (absent j (q.1 ∙ ap Some (sym p.1)))
+    | inr q ↦ p.0 ∙ sym q.0
+  ]
+]
 
 -- a node is given the next number
-pub more_numbers : (numbers nodes : List ℕ) (node : ℕ) → node < length numbers → ((k : ℕ) → ¬ (slice_get nodes k ≡ Some node)) → AreNumbersOf numbers nodes → AreNumbersOf (slice_set numbers node (length nodes + 1)) (nodes ++ node ∷ [])
-more_numbers numbers nodes node inside absent h x k = (forth, back)
+pub more_numbers : (size : ℕ) (numbers nodes : List ℕ) (node : ℕ) → size ≤ length numbers → length nodes + 1 < 2 ^ 32 → node < length numbers → ((k : ℕ) → ¬ (slice_get nodes k ≡ Some node)) → AreNumbersOf size numbers nodes
+    → AreNumbersOf size (slice_set numbers node (length nodes + 1)) (nodes ++ node ∷ [])
+more_numbers size numbers nodes node wide few inside absent h = record {
+  numbered = λ x k w. (forth x k, λ e. back x k e (subst (λ (n : ℕ). x < n) (length-set numbers node (length nodes + 1)) w));
+  once = found_once nodes node absent h.once;
+  laid = inr (rw (length-set numbers node (length nodes + 1)) wide);
+  few = rw (length-append nodes (node ∷ [])) (omega (arith, few));
+}
   where
-    forth : slice_get (slice_set numbers node (length nodes + 1)) x ≡ Some (k + 1) → slice_get (nodes ++ node ∷ []) k ≡ Some x
-    forth e = elim (get_set numbers node x (length nodes + 1) inside) as (λ _. slice_get (nodes ++ node ∷ []) k ≡ Some x) [
+    forth : (x k : ℕ) → slice_get (slice_set numbers node (length nodes + 1)) x ≡ Some (k + 1) → slice_get (nodes ++ node ∷ []) k ≡ Some x
+    forth x k e = elim (get_set numbers node x (length nodes + 1) inside) as (λ _. slice_get (nodes ++ node ∷ []) k ≡ Some x) [
       | inl s ↦
           let at : length nodes ≡ k = one_more _ _ (some_same _ _ (sym s.1 ∙ e)) in
           subst (λ (j : ℕ). slice_get (nodes ++ node ∷ []) j ≡ Some x) at (get_at_end nodes node ∙ ap Some (sym s.0))
-      | inr s ↦ get-append nodes (node ∷ []) k x ((h x k).0 (sym s.1 ∙ e))
+      | inr s ↦
+          let old : slice_get numbers x ≡ Some (k + 1) = sym s.1 ∙ e in
+          get-append nodes (node ∷ []) k x ((h.numbered x k (slice_get_within numbers x (k + 1) old)).0 old)
     ]
 
-    back : slice_get (nodes ++ node ∷ []) k ≡ Some x → slice_get (slice_set numbers node (length nodes + 1)) x ≡ Some (k + 1)
-    back e = elim (get_set numbers node x (length nodes + 1) inside) as (λ _. slice_get (slice_set numbers node (length nodes + 1)) x ≡ Some (k + 1)) [
+    back : (x k : ℕ) → slice_get (nodes ++ node ∷ []) k ≡ Some x → x < length numbers → slice_get (slice_set numbers node (length nodes + 1)) x ≡ Some (k + 1)
+    back x k e w = elim (get_set numbers node x (length nodes + 1) inside) as (λ _. slice_get (slice_set numbers node (length nodes + 1)) x ≡ Some (k + 1)) [
       | inl s ↦ elim (get_pushed nodes node k x e) as (λ _. slice_get (slice_set numbers node (length nodes + 1)) x ≡ Some (k + 1)) [
         | inl p ↦ absurd (absent k (p.1 ∙ ap Some s.0))
         | inr p ↦ s.1 ∙ ap (λ (j : ℕ). Some (j + 1)) (sym p.0)
       ]
       | inr s ↦ elim (get_pushed nodes node k x e) as (λ _. slice_get (slice_set numbers node (length nodes + 1)) x ≡ Some (k + 1)) [
-        | inl p ↦ s.1 ∙ (h x k).1 p.1
+        | inl p ↦ s.1 ∙ (h.numbered x k w).1 p.1
         | inr p ↦ absurd (s.0 (sym p.1))
       ]
     ]
 
--- the node that was found last loses its number
-pub fewer_numbers : (numbers nodes : List ℕ) (node : ℕ) → AreNumbersOf numbers (nodes ++ node ∷ []) → AreNumbersOf (slice_set numbers node 0) nodes
-fewer_numbers numbers nodes node h x k = (forth, back)
+-- a number that is no node of the table is put behind the others
+pub more_strangers : (size : ℕ) (numbers nodes : List ℕ) (node : ℕ) → size ≤ length numbers → length nodes + 1 < 2 ^ 32 → length numbers ≤ node → ((k : ℕ) → ¬ (slice_get nodes k ≡ Some node)) → AreNumbersOf size numbers nodes
+    → AreNumbersOf size numbers (nodes ++ node ∷ [])
+more_strangers size numbers nodes node wide few out absent h = record {
+  numbered = λ x k w. (λ e. get-append nodes (node ∷ []) k x ((h.numbered x k w).0 e), λ e. (h.numbered x k w).1 (before x k w e));
+  once = found_once nodes node absent h.once;
+  laid = inr wide;
+  few = rw (length-append nodes (node ∷ [])) (omega (arith, few));
+}
   where
-    last : slice_get numbers node ≡ Some (length nodes + 1)
-    last = (h node (length nodes)).1 (get_at_end nodes node)
+    before : (x k : ℕ) → x < length numbers → slice_get (nodes ++ node ∷ []) k ≡ Some x → slice_get nodes k ≡ Some x
+    before x k w e = elim (get_pushed nodes node k x e) as (λ _. slice_get nodes k ≡ Some x) [
+      | inl p ↦ p.1
+      | inr p ↦ absurd (omega (arith, w, out, p.1))
+    ]
 
-    inside : node < length numbers
-    inside = slice_get_within numbers node _ last
+-- the node that was found last is forgotten
+fewer_once : (nodes : List ℕ) (node : ℕ) → ((i j x : ℕ) → slice_get (nodes ++ node ∷ []) i ≡ Some x → slice_get (nodes ++ node ∷ []) j ≡ Some x → i ≡ j) → (i j x : ℕ) → slice_get nodes i ≡ Some x → slice_get nodes j ≡ Some x → i ≡ j
+fewer_once nodes node once i j x s t = once i j x (get-append nodes (node ∷ []) i x s) (get-append nodes (node ∷ []) j x t)
 
-    forth : slice_get (slice_set numbers node 0) x ≡ Some (k + 1) → slice_get nodes k ≡ Some x
-    forth e = elim (get_set numbers node x 0 inside) as (λ _. slice_get nodes k ≡ Some x) [
+few_before : (nodes : List ℕ) (node : ℕ) → length (nodes ++ node ∷ []) < 2 ^ 32 → length nodes < 2 ^ 32
+few_before nodes node few = omega (arith, length-append nodes (node ∷ []), few)
+
+wide_before : (size : ℕ) (numbers nodes : List ℕ) (node : ℕ) → AreNumbersOf size numbers (nodes ++ node ∷ []) → size ≤ length numbers
+wide_before size numbers nodes node h = elim h.laid as (λ _. size ≤ length numbers) [
+  | inl e ↦ absurd (none_in (length nodes) node (subst (λ (ns : List ℕ). slice_get ns (length nodes) ≡ Some node) e (get_at_end nodes node)))
+  | inr e ↦ e
+]
+
+pub fewer_numbers : (size : ℕ) (numbers nodes : List ℕ) (node : ℕ) → node < length numbers → AreNumbersOf size numbers (nodes ++ node ∷ []) → AreNumbersOf size (slice_set numbers node 0) nodes
+fewer_numbers size numbers nodes node inside h = record {
+  numbered = λ x k w. (forth x k, λ e. back x k e (subst (λ (n : ℕ). x < n) (length-set numbers node 0) w));
+  once = fewer_once nodes node h.once;
+  laid = inr (rw (length-set numbers node 0) (wide_before size numbers nodes node h));
+  few = few_before nodes node h.few;
+}
+  where
+    forth : (x k : ℕ) → slice_get (slice_set numbers node 0) x ≡ Some (k + 1) → slice_get nodes k ≡ Some x
+    forth x k e = elim (get_set numbers node x 0 inside) as (λ _. slice_get nodes k ≡ Some x) [
       | inl s ↦ absurd (omega (arith, some_same 0 (k + 1) (sym s.1 ∙ e)))
-      | inr s ↦ elim (get_pushed nodes node k x ((h x k).0 (sym s.1 ∙ e))) as (λ _. slice_get nodes k ≡ Some x) [
-        | inl p ↦ p.1
-        | inr p ↦ absurd (s.0 (sym p.1))
-      ]
+      | inr s ↦
+          let old : slice_get numbers x ≡ Some (k + 1) = sym s.1 ∙ e in
+          elim (get_pushed nodes node k x ((h.numbered x k (slice_get_within numbers x (k + 1) old)).0 old)) as (λ _. slice_get nodes k ≡ Some x) [
+            | inl p ↦ p.1
+            | inr p ↦ absurd (s.0 (sym p.1))
+          ]
     ]
 
-    back : slice_get nodes k ≡ Some x → slice_get (slice_set numbers node 0) x ≡ Some (k + 1)
-    back e = elim (get_set numbers node x 0 inside) as (λ _. slice_get (slice_set numbers node 0) x ≡ Some (k + 1)) [
-      | inl s ↦
-          let here : slice_get numbers x ≡ Some (k + 1) = (h x k).1 (get-append nodes (node ∷ []) k x e) in
-          let same : length nodes + 1 ≡ k + 1 = some_same _ _ (sym last ∙ subst (λ (y : ℕ). slice_get numbers y ≡ Some (k + 1)) s.0 here) in
-          absurd (omega (arith, same, slice_get_within nodes k x e))
-      | inr s ↦ s.1 ∙ (h x k).1 (get-append nodes (node ∷ []) k x e)
+    back : (x k : ℕ) → slice_get nodes k ≡ Some x → x < length numbers → slice_get (slice_set numbers node 0) x ≡ Some (k + 1)
+    back x k e w =
+        let here : slice_get (nodes ++ node ∷ []) k ≡ Some x = get-append nodes (node ∷ []) k x e in
+        elim (get_set numbers node x 0 inside) as (λ _. slice_get (slice_set numbers node 0) x ≡ Some (k + 1)) [
+          | inl s ↦
+              let same : k ≡ length nodes = h.once k (length nodes) node (here ∙ ap Some s.0) (get_at_end nodes node) in
+              absurd (omega (arith, same, slice_get_within nodes k x e))
+          | inr s ↦ s.1 ∙ (h.numbered x k w).1 here
+        ]
+
+pub fewer_strangers : (size : ℕ) (numbers nodes : List ℕ) (node : ℕ) → length numbers ≤ node → AreNumbersOf size numbers (nodes ++ node ∷ []) → AreNumbersOf size numbers nodes
+fewer_strangers size numbers nodes node out h = record {
+  numbered = λ x k w. (λ e. before x k w ((h.numbered x k w).0 e), λ e. (h.numbered x k w).1 (get-append nodes (node ∷ []) k x e));
+  once = fewer_once nodes node h.once;
+  laid = inr (wide_before size numbers nodes node h);
+  few = few_before nodes node h.few;
+}
+  where
+    before : (x k : ℕ) → x < length numbers → slice_get (nodes ++ node ∷ []) k ≡ Some x → slice_get nodes k ≡ Some x
+    before x k w e = elim (get_pushed nodes node k x e) as (λ _. slice_get nodes k ≡ Some x) [
+      | inl p ↦ p.1
+      | inr p ↦ absurd (omega (arith, w, out, p.1))
     ]
 
--- the node that was found last has a place for its number
-pub last_inside : (numbers nodes : List ℕ) (node : ℕ) → AreNumbersOf numbers (nodes ++ node ∷ []) → node < length numbers
-last_inside numbers nodes node h = slice_get_within numbers node _ ((h node (length nodes)).1 (get_at_end nodes node))
+-- a node stands for itself alone
+pub stands_known : (keys : List ℕ) (node : ℕ) (r : Option ℕ) → MatchOption r ((k : ℕ) → ¬ (slice_get keys k ≡ Some node)) (λ k. slice_get keys k ≡ Some node) → MatchOption r ((k : ℕ) → ¬ (StandsFor nat_eq keys k node)) (λ k. StandsFor nat_eq keys k node)
+stands_known keys node None h = λ k s. h k (s.1 ∙ ap Some (nat_same (λ z. z) s.0 node s.2))
+stands_known keys node (Some k) h = (node, h, nat_refl node)
 
--- a node that has no number is put behind the others, or all stays
-pub adds_node : (keys keys' : List ℕ) (node : ℕ) (r : Result ℕ PathError) → ((k : ℕ) → ¬ (slice_get keys k ≡ Some node)) → OnOk r (keys' ≡ keys ++ node ∷ []) → OnErr r (keys' ≡ keys) → AddsNode nat_eq node keys keys'
-adds_node keys keys' node (Ok k) absent e f = AddsNode-new nat_eq keys keys' node e (λ j m s. ne_eqb m node (λ q. absent j (s ∙ ap Some q)))
-adds_node keys keys' node (Err x) absent e f = subst (AddsNode nat_eq node keys) (sym f) (AddsNode-old nat_eq keys node)
+-- a node that has no number is put behind the others, and its number is its place
+pub adds_node : (keys keys' : List ℕ) (node : ℕ) → ((k : ℕ) → ¬ (slice_get keys k ≡ Some node)) → keys' ≡ keys ++ node ∷ [] → AddsNode nat_eq node keys keys'
+adds_node keys keys' node absent e = AddsNode-new nat_eq keys keys' node e (λ j m s. ne_eqb m node (λ q. absent j (s ∙ ap Some q)))
 
--- its number is its place
-pub stands_last : (keys keys' : List ℕ) (node : ℕ) (r : Result ℕ PathError) → OnOk r (keys' ≡ keys ++ node ∷ []) → IfOk r (λ k. k ≡ length keys) → IfOk r (λ k. StandsFor nat_eq keys' k node)
-stands_last keys keys' node (Ok k) e at = (node, subst (λ (ks : List ℕ). slice_get ks k ≡ Some node) (sym e) (subst (λ (j : ℕ). slice_get (keys ++ node ∷ []) j ≡ Some node) (sym at) (get_at_end keys node)), nat_refl node)
-stands_last keys keys' node (Err x) e at = tt
+pub stands_last : (keys keys' : List ℕ) (node k : ℕ) → keys' ≡ keys ++ node ∷ [] → k ≡ length keys → StandsFor nat_eq keys' k node
+stands_last keys keys' node k e at = (node, subst (λ (ks : List ℕ). slice_get ks k ≡ Some node) (sym e) (subst (λ (j : ℕ). slice_get (keys ++ node ∷ []) j ≡ Some node) (sym at) (get_at_end keys node)), nat_refl node)
 
 -- a node that stands behind others, or was there before, is a node beside theirs
 pub same_added : (keys keys' ys : List ℕ) (x k : ℕ) → AddsNode nat_eq x keys keys' → StandsFor nat_eq keys' k x → HasSameNodes nat_eq keys ys → HasSameNodes nat_eq keys' (ys ++ x ∷ [])

@@ -3,6 +3,7 @@
 //! The crates of searches over tables hand these to the calls for graphs that functions answer.
 #![tactic(auto)]
 
+pub mod discovery;
 pub mod edges;
 pub mod goal_test;
 pub mod neighbours;

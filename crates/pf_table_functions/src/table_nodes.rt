@@ -1,23 +1,28 @@
 //! Nodes of a table that are numbered in the order in which a search finds them.
 
-ghost use Rattle.std.specs.Prelude.{◌≡◌, ◌<◌, ◌-◌, ◌^◌, ◌++◌, [], ◌∷◌, ℕ, List, Some, IfOk, IfErr, IfSome, OnErr, OnOk, MatchOption, length, nat_eq, slice_get, take};
-ghost use Rattle.std.specs.List.{IsDistinct};
+ghost use Rattle.std.specs.Prelude.{◌≡◌, ◌<◌, ◌≤◌, ◌-◌, ◌++◌, [], ◌∷◌, ℕ, List, Some, IfOk, IfErr, IfSome, OnErr, OnOk, MatchOption, length, nat_eq, slice_get, take};
+ghost use Rattle.std.specs.List.{IsDistinct, position};
 ghost use Rattle.pf_base.specs.NodeRefs.{HasSameNodes};
 ghost use Rattle.pf_table_functions.specs.Internal.Numbers.{AreNumbersOf};
 
 use pf_base::PathError;
 use pf_discovery::numbering::Numbering;
-use std::alloc::Allocator;
+use std::alloc::{AllocFailed, Allocator};
 use std::marker::Model;
 
 /// How many nodes can have numbers, which are kept in 32 bits.
 const MOST_NUMBERED: usize = 0xFFFF_FFFF;
 
-/// The nodes of a table that were found, in order, and the number of each in a table of its own, so that
-/// it is one look. A contract sees the nodes.
+/// The nodes that a search over a table found, in order, and the number of each in a table of its own,
+/// so that it is one look. A contract sees the nodes.
+///
+/// A number that is no node of the table may be found too, as a start. It is looked for among all that
+/// were found, which no edge of the table makes necessary.
 #[derive(Drop)]
 pub struct TableNodes<A: Allocator> {
-    // One more than the number of each node that was found, and 0 at the others.
+    size: usize,
+    // One more than the number of each node of the table that was found, and 0 at the others; laid out
+    // when the first node is found.
     numbers: Vec<u32, A>,
     nodes: Vec<usize, A>,
 }
@@ -33,35 +38,50 @@ impl<A: Allocator> Model for TableNodes<A> {
 
     ghost view = { λ s. s.nodes.items };
 
-    ghost invariant = { λ s. AreNumbersOf s.numbers.items s.nodes.items };
+    ghost invariant = { λ s. AreNumbersOf s.size s.numbers.items s.nodes.items };
 }
 
 impl<A: Allocator + Copy> TableNodes<A> {
-    /// No node of a table with so many.
-    pub fn new(alloc: A, size: usize) -> Result<Self, PathError>
-        ensures empty { IfOk result (λ nodes. nodes ≡ []) }
+    /// No node of a table with so many. This takes no memory.
+    pub fn new(alloc: A, size: usize) -> Self
+        ensures { result ≡ [] }
+    {
+        TableNodes {
+            size,
+            numbers: Vec::new(alloc),
+            nodes: Vec::new(alloc),
+        }
+    }
+
+    /// A node of a table with so many, or a number that is none, which was found first.
+    pub fn begin(alloc: A, size: usize, start: usize) -> Result<Self, PathError>
+        ensures one { IfOk result (λ nodes. nodes ≡ start ∷ []) }
         ensures refused { IfErr result (λ e. e ≡ PathError.OutOfMemory) }
     {
-        let mut numbers = Vec::new(alloc);
-        numbers.resize(size, 0u32)?;
-        Ok(TableNodes {
-            numbers,
-            nodes: Vec::new(alloc),
-        })
+        let mut nodes = TableNodes::new(alloc, size);
+        nodes.add(start)?;
+        Ok(nodes)
     }
 }
 
-/// Makes room for the number of a node. Whatever this answers, no node has another number after it.
-fn widen<A: Allocator>(numbers: &mut Vec<u32, A>, node: usize) -> Result<(), PathError>
-    requires { node < 2 ^ 64 - 1 }
-    ensures wide { OnOk result (node < length numbers.new.items) }
-    ensures same { (nodes : List ℕ) → AreNumbersOf numbers.old.items nodes → AreNumbersOf numbers.new.items nodes }
+/// Lays out a number for each node of a table with so many, unless that was done. Whatever this answers,
+/// no node has another number after it.
+fn lay_out<A: Allocator>(numbers: &mut Vec<u32, A>, size: usize) -> Result<(), PathError>
+    ensures wide { OnOk result (size ≤ length numbers.new.items) }
+    ensures same { (nodes : List ℕ) → AreNumbersOf size numbers.old.items nodes → AreNumbersOf size numbers.new.items nodes }
     ensures refused { IfErr result (λ e. e ≡ PathError.OutOfMemory) }
 {
-    if node >= numbers.len() {
-        numbers.resize(node + 1, 0u32)?;
+    if numbers.len() < size {
+        numbers.resize(size, 0u32)?;
     }
     Ok(())
+}
+
+/// The place of a node among those that were found.
+fn place_of(nodes: &[usize], node: usize) -> Option<usize>
+    ensures { result ≡ position (λ other. nat_eq other node) nodes.now }
+{
+    nodes.iter().position(|other| *other == node)
 }
 
 impl<A: Allocator> TableNodes<A> {
@@ -70,7 +90,7 @@ impl<A: Allocator> TableNodes<A> {
         ensures { MatchOption result ((k : ℕ) → ¬ (slice_get self.now k ≡ Some node)) (λ k. slice_get self.now k ≡ Some node) }
     {
         if node >= self.numbers.len() {
-            return None;
+            return place_of(&self.nodes, node);
         }
         let number = self.numbers[node] as usize;
         if number > 0 { Some(number - 1) } else { None }
@@ -85,12 +105,14 @@ impl<A: Allocator> TableNodes<A> {
         ensures refused { IfErr result (λ e. e ≡ PathError.OutOfMemory) }
     {
         let number = self.nodes.len();
-        if number >= MOST_NUMBERED || node == usize::MAX {
+        if number >= MOST_NUMBERED {
             return Err(PathError::OutOfMemory);
         }
-        widen(&mut self.numbers, node)?;
+        lay_out(&mut self.numbers, self.size)?;
         self.nodes.push(node)?;
-        self.numbers[node] = number as u32 + 1;
+        if node < self.numbers.len() {
+            self.numbers[node] = number as u32 + 1;
+        }
         Ok(number)
     }
 
@@ -100,7 +122,9 @@ impl<A: Allocator> TableNodes<A> {
         ensures { self.new ≡ take (length self.old - 1) self.old }
     {
         if let Some(node) = self.nodes.pop() {
-            self.numbers[node] = 0;
+            if node < self.numbers.len() {
+                self.numbers[node] = 0;
+            }
         }
     }
 }
@@ -115,7 +139,7 @@ pub fn table_nodes_of<A: Allocator + Copy>(
     ensures distinct { IfOk result (λ found. IfSome found (λ keys. IsDistinct nat_eq keys)) }
     ensures refused { IfErr result (λ e. e ≡ PathError.OutOfMemory) }
 {
-    let mut found = TableNodes::new(alloc, size)?;
+    let mut found = TableNodes::new(alloc, size);
     'nodes: for node in nodes {
         if *node >= size {
             return Ok(None);
@@ -138,10 +162,17 @@ impl<A: Allocator> Numbering for TableNodes<A> {
         self.nodes.as_slice()
     }
 
-    fn number_of(&mut self, node: usize) -> Result<usize, PathError> {
+    fn get_number_of(&self, node: &usize) -> Option<usize> {
+        self.known(*node)
+    }
+
+    fn number_of(&mut self, node: usize) -> Result<usize, AllocFailed<usize>> {
         match self.known(node) {
             Some(number) => Ok(number),
-            None => self.add(node),
+            None => match self.add(node) {
+                Ok(number) => Ok(number),
+                Err(_) => Err(AllocFailed { value: node }),
+            },
         }
     }
 

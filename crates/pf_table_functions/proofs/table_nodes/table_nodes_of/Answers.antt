@@ -5,7 +5,7 @@ use Rattle.pf_table_functions.proofs.NumberLemmas.{same_added, distinct_from}
 use Rattle.pf_table_functions.proofs.table_nodes.table_nodes_of.Goals as goal
 
 pub nodes-init : goal.nodes-init
-nodes-init g c = rw c.in_ok-found.ensures.empty (λ x. (λ h. h, λ h. h), distinct_from [] (λ i j x s t. absurd (none_in i x s)))
+nodes-init g c = rw c.new-found.ensures (λ x. (λ h. h, λ h. h), distinct_from [] (λ i j x s t. absurd (none_in i x s)))
 
 pub nodes-preserved : goal.nodes-preserved
 nodes-preserved g c =
