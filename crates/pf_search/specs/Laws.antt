@@ -1,5 +1,5 @@
 -- What the laws of the searches are about: graphs with costs and graphs without them, orders and walks.
-use Rattle.std.specs.Prelude.{◌≡◌, Bool, true, List, [], ◌∷◌, ℤ}
+use Rattle.std.specs.Prelude.{◌≡◌, Bool, true, List, [], ◌∷◌, Option, Some, None, MatchOption, ℤ}
 use Rattle.pf_base.specs.Walks.{IsReachable}
 use Rattle.pf_base.specs.Successors.{HasSuccessor}
 use Rattle.pf_base.specs.Edges.{InReach}
@@ -26,3 +26,8 @@ OfBreadthOrder {N} eq P = (next : N → List N) (start : N) (given : List N) →
 -- of each walk by rising cost, P holds
 abbrev pub OfEachCheapestWalk : {N C F : Type 0} → (N → N → Bool) → (C → ℤ) → (F → (N → Type 0) → (N → List (N × ℤ)) → Type 0) → ((N → List (N × ℤ)) → N → CheapestWalk N C F → Type 0) → Type 0
 OfEachCheapestWalk {N} {C} {F} eq value answers P = (edges : N → List (N × ℤ)) (start : N) (walk : CheapestWalk N C F) → IsCheapestWalk eq value edges start answers walk → P edges start walk
+
+-- none is answered by both, or by neither, and what is answered compares so
+abbrev pub Agree : {X Y : Type 0} → (X → Y → Type 0) → Option X → Option Y → Type 0
+Agree compare None other = other ≡ None
+Agree compare (Some answer) other = MatchOption other ⊥ (compare answer)

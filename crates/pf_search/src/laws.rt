@@ -2,13 +2,14 @@
 //!
 //! A call adds its law to what the caller's proof knows. It does nothing when it runs.
 
-ghost use Rattle.std.specs.Prelude.{◌≡◌, ◌≤◌, ◌∷◌, [], ℕ, List, Bool, true, ℤ, Option, Some, slice_get, length};
-ghost use Rattle.pf_base.specs.Edges.{InReach, IsCheapestGoalPath, HasNoNegativeCost, targets};
+ghost use Rattle.std.specs.Prelude.{◌≡◌, ◌≤◌, ◌∷◌, [], ℕ, List, Bool, true, ℤ, Option, Some, Vec, slice_get, length};
+ghost use Rattle.pf_base.specs.Edges.{InReach, IsCheapestGoalPath, IsCheapestOrNone, HasNoNegativeCost, targets};
+ghost use Rattle.pf_base.specs.Loops.{IsBestLoopOrNone};
 ghost use Rattle.pf_base.specs.Orders.{last_nodes, IsBreadthOrder, AllGiven, IsWholePreorder};
-ghost use Rattle.pf_base.specs.Successors.{HasSuccessor, IsFewestEdgesGoalPath};
+ghost use Rattle.pf_base.specs.Successors.{HasSuccessor, IsFewestEdgesGoalPath, IsFewestEdgesOrNone};
 ghost use Rattle.pf_base.specs.Walks.{HasNode, NoRepeats, IsAtMostNumberOf, IsGoalWalk, IsReachable};
 ghost use Rattle.pf_search.specs.CheapestFirst.{IsGiven, given_nodes};
-ghost use Rattle.pf_search.specs.Laws.{HasEqualSuccessors, HasEqualEdges, OfPreorder, OfBreadthOrder, OfEachCheapestWalk};
+ghost use Rattle.pf_search.specs.Laws.{Agree, HasEqualSuccessors, HasEqualEdges, OfPreorder, OfBreadthOrder, OfEachCheapestWalk};
 ghost use Rattle.pf_search.specs.Parents.{IsCheapestMap, IsChainOfParents, IsLeastCost};
 
 use crate::directed::dijkstra::DijkstraReachable;
@@ -102,6 +103,25 @@ pub fn one_cheapest_cost<N: Eq>(_of: PhantomData<N>)
         → IsCheapestGoalPath N.eq edges starts test path s → IsCheapestGoalPath N.eq edges starts test other t → s ≡ t }
     ensures node { (edges : N → List (N × ℤ)) (start : N) (x y : N) (s t : ℤ) → N.eq x y ≡ true
         → IsLeastCost N.eq edges start x s → IsLeastCost N.eq edges start y t → s ≡ t }
+{}
+
+/// In one graph, two answers to one question agree: where one is `None` the other is too, and else both
+/// paths cost the same, or have as many edges, or both loops have as many.
+///
+/// So a search over a table, between names or over states answers as the one over a function does that
+/// lists the same edges.
+pub fn answers_agree<N, C, A, B>(_of: PhantomData<(N, C, A, B)>)
+where
+    N: Eq,
+    C: Cost,
+    A: Allocator,
+    B: Allocator,
+    ensures cheapest { (edges : N → List (N × ℤ)) (starts : List N) (test : N → Bool) (one : Option (Vec N A × C)) (other : Option (Vec N B × C))
+        → IsCheapestOrNone N.eq edges starts test C.value one → IsCheapestOrNone N.eq edges starts test C.value other → Agree (λ found also. C.value found.1 ≡ C.value also.1) one other }
+    ensures fewest { (next : N → List N) (starts : List N) (test : N → Bool) (one : Option (Vec N A)) (other : Option (Vec N B))
+        → IsFewestEdgesOrNone N.eq next starts test one → IsFewestEdgesOrNone N.eq next starts test other → Agree (λ path also. length path.items ≡ length also.items) one other }
+    ensures loops { (next : N → List N) (starts : List N) (one : Option (Vec N A)) (other : Option (Vec N B))
+        → IsBestLoopOrNone N.eq next starts one → IsBestLoopOrNone N.eq next starts other → Agree (λ path also. length path.items ≡ length also.items) one other }
 {}
 
 /// In a map of cheapest paths, the chain of parents of a node with an entry is a cheapest path from
