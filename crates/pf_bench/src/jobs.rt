@@ -2,6 +2,7 @@
 
 ghost use Rattle.std.specs.Prelude.{◌<◌};
 
+mod compact;
 mod costs;
 mod grid;
 mod network;
@@ -12,6 +13,7 @@ mod steps;
 mod table;
 mod tables;
 
+use crate::jobs::compact::CompactJob;
 use crate::jobs::costs::CostsJob;
 use crate::jobs::grid::{GridFloodJob, GridJob};
 use crate::jobs::network::{EdgesJob, FlowJob, repeat_components, repeat_cycle};
@@ -31,6 +33,7 @@ pub enum Job {
     Rows(RowsJob),
     Orders(OrderJob),
     Tables(TablesJob),
+    Compact(CompactJob),
     Assignment(AssignmentJob),
     Table(TableJob),
     Grid(GridJob),
@@ -74,13 +77,37 @@ const JOBS: &[(&str, Job)] = &[
         Job::Orders(OrderJob::TopologicalSort),
     ),
     ("groups-dag", Job::Orders(OrderJob::Groups)),
-    ("astar-board-table", Job::Tables(TablesJob::AstarBoard)),
-    ("bfs-board-table", Job::Tables(TablesJob::BfsBoard)),
+    ("astar-board-table", Job::Tables(TablesJob::Astar)),
+    ("bfs-board-table", Job::Tables(TablesJob::Bfs)),
+    ("bfs_reach-board-table", Job::Tables(TablesJob::BfsReach)),
     (
-        "dijkstra-board-table",
-        Job::Tables(TablesJob::DijkstraBoard),
+        "bfs_bidirectional-board-table",
+        Job::Tables(TablesJob::BfsBidirectional),
     ),
-    ("dijkstra-rows-table", Job::Tables(TablesJob::DijkstraRows)),
+    ("dfs_reach-board-table", Job::Tables(TablesJob::DfsReach)),
+    ("dijkstra-board-table", Job::Tables(TablesJob::Dijkstra)),
+    (
+        "dijkstra_reach-board-table",
+        Job::Tables(TablesJob::DijkstraReach),
+    ),
+    ("bfs_loop-rows-table", Job::Compact(CompactJob::BfsLoop)),
+    ("dfs-rows-table", Job::Compact(CompactJob::Dfs)),
+    ("dijkstra-rows-table", Job::Compact(CompactJob::Dijkstra)),
+    (
+        "dijkstra_all-rows-table",
+        Job::Compact(CompactJob::DijkstraAll),
+    ),
+    (
+        "dijkstra_reach-rows-table",
+        Job::Compact(CompactJob::DijkstraReach),
+    ),
+    ("yen-rows-table", Job::Compact(CompactJob::Yen)),
+    ("scc-rows-table", Job::Compact(CompactJob::Scc)),
+    (
+        "topological_sort-dag-table",
+        Job::Compact(CompactJob::TopologicalSort),
+    ),
+    ("groups-dag-table", Job::Compact(CompactJob::Groups)),
     (
         "kuhn_munkres-table",
         Job::Assignment(AssignmentJob::Greatest),
@@ -134,6 +161,7 @@ impl Job {
             Job::Rows(job) => job.run(alloc, size, repeats),
             Job::Orders(job) => job.run(alloc, size, repeats),
             Job::Tables(job) => job.run(alloc, size, repeats),
+            Job::Compact(job) => job.run(alloc, size, repeats),
             Job::Assignment(job) => job.run(alloc, size, repeats),
             Job::Table(job) => job.run(alloc, size, repeats),
             Job::Grid(job) => job.run(alloc, size, repeats),

@@ -5,4 +5,5 @@ mod ends;
 mod growths;
 mod names;
 mod rust_cases;
+mod table_chains;
 mod texts;

@@ -62,7 +62,7 @@ impl OrderJob {
 }
 
 /// How many nodes stand in an order.
-fn order_of(found: Result<Result<Vec<usize>, usize>, PathError>, is_last: bool) -> Outcome {
+pub fn order_of(found: Result<Result<Vec<usize>, usize>, PathError>, is_last: bool) -> Outcome {
     match &found {
         Ok(Ok(order)) if is_last => Ok(Some(order.len() as u64)),
         Ok(_) => Ok(None),
@@ -71,10 +71,10 @@ fn order_of(found: Result<Result<Vec<usize>, usize>, PathError>, is_last: bool) 
 }
 
 /// Groups of nodes, and what remains where there are cycles.
-type Groups = Result<Vec<Vec<usize>>, (Vec<Vec<usize>>, Vec<usize>)>;
+pub type Groups = Result<Vec<Vec<usize>>, (Vec<Vec<usize>>, Vec<usize>)>;
 
 /// The sum over groups, numbered from 0, of number times nodes.
-fn depth_sum(found: Result<Groups, PathError>, is_last: bool) -> Outcome {
+pub fn depth_sum(found: Result<Groups, PathError>, is_last: bool) -> Outcome {
     match &found {
         Ok(Ok(groups)) if is_last => {
             let mut sum = 0u64;

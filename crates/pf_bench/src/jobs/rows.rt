@@ -15,7 +15,7 @@ use pf_yen::directed::yen::yen;
 use std::alloc::Global;
 
 /// How many paths `yen` is asked for.
-const PATHS: usize = 10;
+pub const PATHS: usize = 10;
 
 /// A search on rows of edges.
 pub enum RowsJob {
@@ -61,7 +61,11 @@ impl RowsJob {
 }
 
 /// 1 for a path from 0 to this node.
-fn ends_at(found: Result<Option<Vec<usize>>, PathError>, last: usize, is_last: bool) -> Outcome {
+pub fn ends_at(
+    found: Result<Option<Vec<usize>>, PathError>,
+    last: usize,
+    is_last: bool,
+) -> Outcome {
     match &found {
         Ok(Some(path)) if is_last && path.first() == Some(&0) && path.last() == Some(&last) => {
             Ok(Some(1))
@@ -72,7 +76,7 @@ fn ends_at(found: Result<Option<Vec<usize>>, PathError>, last: usize, is_last: b
 }
 
 /// What paths cost in all.
-fn costs_of(found: Result<Vec<(Vec<usize>, u32)>, PathError>, is_last: bool) -> Outcome {
+pub fn costs_of(found: Result<Vec<(Vec<usize>, u32)>, PathError>, is_last: bool) -> Outcome {
     match &found {
         Ok(paths) if is_last => {
             let mut sum = 0u64;

@@ -1,58 +1,74 @@
-//! Searches over tables, which answer the same questions as those over functions.
+//! Searches over boards as tables, which answer the same questions as those over functions.
 
 ghost use Rattle.std.specs.Prelude.{◌<◌};
 
-use crate::checks::{cost_of, edges_of};
-use crate::inputs::{Board, HIGHEST, Rows};
+use crate::checks::{cost_of, edges_of, nodes_of, walk_costs_of};
+use crate::inputs::{Board, HIGHEST};
 use crate::repeats::{Outcome, Repeats};
+use pf_adjacency::BothWays;
 use pf_boards::Steps;
+use pf_table_both_ends::bfs_bidirectional;
 use pf_table_breadth::bfs;
 use pf_table_estimates::{BoardEstimates, astar};
-use pf_tables::{CompactRows, dijkstra};
+use pf_table_searches::{bfs_reach, dfs_reach, dijkstra_reach};
+use pf_tables::{Graph, dijkstra};
 use std::alloc::Global;
 
-/// A search over a table.
+/// A search over a board as a table.
 pub enum TablesJob {
-    AstarBoard,
-    BfsBoard,
-    DijkstraBoard,
-    DijkstraRows,
+    Astar,
+    Bfs,
+    BfsBidirectional,
+    BfsReach,
+    DfsReach,
+    Dijkstra,
+    DijkstraReach,
 }
 
 impl TablesJob {
-    /// Runs it on the input of this size.
+    /// Runs it on the input of this size, from the first cell to the last.
     pub fn run(&self, alloc: Global, size: usize, repeats: &Repeats) -> Outcome
-        requires { 0 < size }
-    {
-        match self {
-            TablesJob::DijkstraRows => rows(alloc, size, repeats),
-            _ => self.over_board(alloc, size, repeats),
-        }
-    }
-
-    /// Finds a path of fewest edges, or a cheapest one, over a board so often.
-    fn over_board(&self, alloc: Global, size: usize, repeats: &Repeats) -> Outcome
         requires { 0 < size }
     {
         let cells = Board::random(alloc, size, HIGHEST)?.into_cells(alloc)?;
         let graph = pf_boards::Board::new(size, size, &cells, Steps::Four)?;
         let last = graph.number_of(size - 1, size - 1);
-        repeats.check(|is_last| match self {
-            TablesJob::AstarBoard => {
+        match self {
+            TablesJob::Astar => {
                 let estimates = BoardEstimates::new(&graph, last);
-                cost_of(astar(alloc, &estimates, 0), is_last)
+                repeats.check(|is_last| cost_of(astar(alloc, &estimates, 0), is_last))
             }
-            TablesJob::BfsBoard => edges_of(bfs(alloc, &graph, 0, last), is_last),
-            _ => cost_of(dijkstra(alloc, &graph, 0, last), is_last),
-        })
+            TablesJob::Bfs => repeats.check(|is_last| edges_of(
+                bfs(alloc, &graph, 0, last),
+                is_last,
+            )),
+            TablesJob::Dijkstra => {
+                repeats.check(|is_last| cost_of(dijkstra(alloc, &graph, 0, last), is_last))
+            }
+            TablesJob::BfsBidirectional => from_both_ends(alloc, &graph, last, repeats),
+            TablesJob::BfsReach | TablesJob::DfsReach | TablesJob::DijkstraReach => {
+                repeats.check(|_is_last| self.walk(alloc, &graph))
+            }
+        }
+    }
+
+    /// Goes along a walk to its end.
+    fn walk<G: Graph<u32>>(&self, alloc: Global, graph: &G) -> Outcome {
+        match self {
+            TablesJob::BfsReach => nodes_of(bfs_reach(alloc, graph, 0)?),
+            TablesJob::DfsReach => nodes_of(dfs_reach(alloc, graph, 0)?),
+            _ => walk_costs_of(dijkstra_reach(alloc, graph, 0)?),
+        }
     }
 }
 
-/// Finds a cheapest path over rows in compact form so often.
-fn rows(alloc: Global, size: usize, repeats: &Repeats) -> Outcome
-    requires { 0 < size }
-{
-    let rows = Rows::random(alloc, size, true)?;
-    let graph = CompactRows::new(rows.offsets(), rows.edges())?;
-    repeats.check(|is_last| cost_of(dijkstra(alloc, &graph, 0, size - 1), is_last))
+/// Searches a graph from both ends so often. The edges are turned round once.
+fn from_both_ends<G: Graph<u32>>(
+    alloc: Global,
+    graph: &G,
+    last: usize,
+    repeats: &Repeats,
+) -> Outcome {
+    let both = BothWays::new(alloc, graph)?;
+    repeats.check(|is_last| edges_of(bfs_bidirectional(alloc, &both, 0, last), is_last))
 }

@@ -15,14 +15,10 @@ use pf_graph::undirected::kruskal::{kruskal, kruskal_indices};
 use pf_graph::undirected::prim::prim;
 use pf_grid::Grid;
 use pf_matrix::Matrix;
-use pf_table_breadth::bfs;
-use pf_table_orders::{topological_sort, topological_sort_into_groups};
-use pf_table_searches::{dfs, dijkstra_all};
-use pf_tables::{CompactRows, dijkstra};
 use std::alloc::Global;
 
 /// The last number.
-const LAST: usize = 1_000_000;
+pub(super) const LAST: usize = 1_000_000;
 
 /// How wide and how high a board of a million positions is.
 const SIDE: usize = 1_000;
@@ -44,17 +40,17 @@ fn fall(numbers: &[usize], last: usize) -> bool {
 }
 
 /// Whether the numbers fall by 1 from the last one to 0.
-fn fall_to_zero(numbers: &[usize]) -> bool {
+pub(super) fn fall_to_zero(numbers: &[usize]) -> bool {
     numbers.len() == LAST + 1 && fall(numbers, LAST)
 }
 
 /// Whether there is a path, and it leads down to 0.
-fn is_path_down(found: Result<Option<Vec<usize>>, PathError>) -> bool {
+pub(super) fn is_path_down(found: Result<Option<Vec<usize>>, PathError>) -> bool {
     matches!(&found, Ok(Some(path)) if fall_to_zero(path))
 }
 
 /// Whether there is a path, and it leads down to 0, at a cost of 1 for each step.
-fn is_way_down(found: Found<usize, usize>) -> bool {
+pub(super) fn is_way_down(found: Found<usize, usize>) -> bool {
     matches!(&found, Ok(Some((path, price))) if fall_to_zero(path) && *price == LAST)
 }
 
@@ -105,7 +101,7 @@ fn paths_walks_and_orders(rt: HostRuntime) {
 }
 
 /// Whether there are as many lists as `count`, each of as many numbers as `length`.
-fn have_lengths(lists: Lists<usize>, count: usize, length: usize) -> bool {
+pub(super) fn have_lengths(lists: Lists<usize>, count: usize, length: usize) -> bool {
     let Ok(lists) = &lists else {
         return false;
     };
@@ -137,7 +133,7 @@ fn strong_components(rt: HostRuntime) {
 }
 
 /// The numbers from 0 to `last`, where memory is left.
-fn numbers_to(alloc: Global, last: usize) -> Option<Vec<usize>> {
+pub(super) fn numbers_to(alloc: Global, last: usize) -> Option<Vec<usize>> {
     (0..=last).collect(alloc).ok()
 }
 
@@ -243,66 +239,6 @@ fn flows(rt: HostRuntime) {
     let pipes = pipes_to(alloc, SIDE - 1).expect(&rt, "memory");
     let dense = edmonds_karp_dense(alloc, &numbers, &0, &(SIDE - 1), pipes);
     assert!(rt; is_flow_of_one(dense, SIDE - 1));
-}
-
-/// The edges of the numbers from 0 to `last`, where memory is left: 0 has none, and each other one has
-/// one to the next lower one, at cost 1.
-fn edges_down(alloc: Global, last: usize) -> Option<Vec<(usize, usize)>> {
-    let mut edges = Vec::new(alloc);
-    for number in 0..last {
-        edges.push((number, 1)).ok()?;
-    }
-    Some(edges)
-}
-
-/// Where the edges of each number from 0 to `last` begin and where the last one ends, where 0 has none
-/// and each other number has one.
-fn offsets_to(alloc: Global, last: usize) -> Option<Vec<usize>> {
-    let mut offsets = vec![in alloc; 0usize].ok()?;
-    for number in 0..=last {
-        offsets.push(number).ok()?;
-    }
-    Some(offsets)
-}
-
-/// Whether the answer is an order of the numbers down to 0.
-fn is_order_down(order: Result<Result<Vec<usize>, usize>, PathError>) -> bool {
-    matches!(&order, Ok(Ok(numbers)) if fall_to_zero(numbers))
-}
-
-/// Groups by depth, or those that are found and the numbers that are in none.
-type Groups = Result<Vec<Vec<usize>>, (Vec<Vec<usize>>, Vec<usize>)>;
-
-/// Whether the answer is groups of one number each, the last number first.
-fn are_groups_down(answer: Result<Groups, PathError>) -> bool {
-    let Ok(Ok(groups)) = &answer else {
-        return false;
-    };
-    let mut left = groups.len();
-    for group in groups {
-        left = left.saturating_sub(1);
-        if group.as_slice() != [left].as_slice() {
-            return false;
-        }
-    }
-    groups.len() == LAST + 1
-}
-
-/// A chain in a table.
-#[test]
-fn tables(rt: HostRuntime) {
-    let alloc = rt.alloc();
-    let offsets = offsets_to(alloc, LAST).expect(&rt, "memory");
-    let edges = edges_down(alloc, LAST).expect(&rt, "memory");
-    let graph = CompactRows::new(&offsets, edges.as_slice()).expect(&rt, "a graph");
-    assert!(rt; is_way_down(dijkstra(alloc, &graph, LAST, 0)));
-    assert!(rt; is_path_down(bfs(alloc, &graph, LAST, 0)));
-    assert!(rt; is_path_down(dfs(alloc, &graph, LAST, 0)));
-    let parents = dijkstra_all(alloc, &graph, LAST).expect(&rt, "parents");
-    assert!(rt; parents.len() == LAST && parents.contains_key(&0));
-    assert!(rt; is_order_down(topological_sort(alloc, &graph, &[LAST])));
-    let numbers = numbers_to(alloc, LAST).expect(&rt, "memory");
-    assert!(rt; are_groups_down(topological_sort_into_groups(alloc, &graph, &numbers)));
 }
 
 /// A test that each position passes.
