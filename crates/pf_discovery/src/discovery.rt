@@ -3,7 +3,7 @@
 ghost use Rattle.std.specs.Prelude.{◌≡◌, ◌↔◌, ◌≤◌, ◌<◌, ℕ, true, [], ◌∷◌, ◌++◌, List, false, Contains, IfOk, IfErr, OnOk, OnErr, map, take, length};
 ghost use Rattle.std.specs.Iterator.{IsFiniteIterable, Drains};
 ghost use Rattle.std.specs.List.{IsDistinct, AllZip};
-ghost use Rattle.pf_base.specs.NodeRefs.{HasSameNodes};
+ghost use Rattle.pf_base.specs.NodeRefs.{HasSameNodes, nodes_of};
 ghost use Rattle.pf_base.specs.Answers.{IsLawfulClone};
 ghost use Rattle.pf_base.specs.Edges.{targets};
 ghost use Rattle.pf_core.specs.Nodes.{NodeGraph, IsStep, StandsFor, AddsNode, NumbersItems, AddedFrom, Explores};
@@ -17,7 +17,6 @@ use indexmap::IndexSet;
 use pf_base::{Cost, PathError};
 use pf_core::numbered::NumberedGraph;
 use pf_core::row::Row;
-use pf_utils::NodeRefs;
 use std::alloc::Allocator;
 use std::hash::Hash;
 
@@ -140,19 +139,18 @@ where
     Ok(nodes)
 }
 
-/// The set of clones of the nodes of another.
-pub fn clones_of<N, A, B>(alloc: A, starts: &NodeRefs<'_, N, B>) -> Result<Nodes<N, A>, PathError>
+/// The set of clones of these nodes.
+pub fn clones_of<N, A>(alloc: A, starts: &[&N]) -> Result<Nodes<N, A>, PathError>
 where
     N: Eq + Hash + Clone + Drop,
     A: Allocator + Copy,
-    B: Allocator,
     requires clones { IsLawfulClone N.eq N.is_clone }
-    ensures same { IfOk result (λ nodes. HasSameNodes N.eq nodes.keys starts.now) }
+    ensures same { IfOk result (λ nodes. HasSameNodes N.eq nodes.keys (nodes_of starts.now)) }
     ensures distinct { IfOk result (λ nodes. IsDistinct N.eq nodes.keys) }
     ensures refused { IfErr result (λ e. e ≡ PathError.OutOfMemory) }
 {
     let mut nodes = IndexSet::new(alloc);
-    'starts: for start in starts.iter() {
+    'starts: for start in starts.iter().copied() {
         let node = start.clone()?;
         nodes.insert(node)?;
     }

@@ -1,4 +1,3 @@
-pub mod NodeRefsLemmas
 pub mod MoveLemmas
 pub mod RemainderLemmas
 pub mod RootLemmas

@@ -4,8 +4,8 @@ ghost use Rattle.std.specs.Prelude.{◌≡◌, ◌↔◌, ◌<◌, ◌^◌, [], 
 ghost use Rattle.std.specs.Cmp.{partial_equiv_from_equiv};
 ghost use Rattle.std.specs.Iterator.{IsFiniteIterable, YieldsFirstRef, item_count};
 ghost use Rattle.pf_base.specs.Walks.{HasNode, NoRepeats};
-ghost use Rattle.pf_base.specs.NodeRefs.{HasNodesGivenBy, HasSameNodes, has_same_nodes};
-ghost use Rattle.pf_utils.specs.Internal.NodeRefsLaws.{same_nodes_equiv};
+ghost use Rattle.pf_base.specs.NodeRefs.{HasNodesGivenBy, HasSameNodes, has_same_nodes, nodes_of};
+ghost use Rattle.pf_node_refs.specs.Internal.NodeRefsLaws.{same_nodes_equiv};
 ghost use Rattle.pf_base.specs.declared.error.PathError.TheVariants.{OutOfMemory};
 
 use indexmap::{IndexSet, set};
@@ -91,6 +91,14 @@ impl<'a, N: Eq + Hash, A: Allocator> NodeRefs<'a, N, A> {
         ensures { IsTrue result ↔ (self.now ≡ []) }
     {
         self.nodes.is_empty()
+    }
+
+    /// References to the nodes, each once.
+    pub fn as_slice(&self) -> &[&'a N]
+        ensures nodes { nodes_of result.now ≡ self.now }
+        ensures once { NoRepeats N.eq self.now }
+    {
+        self.nodes.as_slice()
     }
 
     /// The nodes, each once.

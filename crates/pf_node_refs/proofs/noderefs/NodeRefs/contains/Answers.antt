@@ -1,7 +1,7 @@
 use Rattle.std.proofs.Common.{subst, sym, ◌∙◌}
 use Rattle.pf_base.specs.Walks.{HasNode}
-use Rattle.pf_utils.proofs.NodeRefsLemmas.{HasNode-found, found-HasNode}
-use Rattle.pf_utils.proofs.noderefs.NodeRefs.contains.Goals as goal
+use Rattle.pf_node_refs.proofs.NodeRefsLemmas.{HasNode-found, found-HasNode}
+use Rattle.pf_node_refs.proofs.noderefs.NodeRefs.contains.Goals as goal
 
 pub returns : goal.returns
 returns g c =

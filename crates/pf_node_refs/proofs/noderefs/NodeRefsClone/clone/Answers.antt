@@ -4,7 +4,7 @@ use Rattle.std.proofs.lemmas.Bool.{false≢true}
 use Rattle.std.proofs.lemmas.List.Elements.{same_from_all_zip}
 use Rattle.pf_base.specs.Walks.{NoRepeats}
 use Rattle.pf_base.specs.NodeRefs.{nodes_of}
-use Rattle.pf_utils.proofs.noderefs.NodeRefsClone.clone.Goals as goal
+use Rattle.pf_node_refs.proofs.noderefs.NodeRefsClone.clone.Goals as goal
 
 at_err : {T E : Type 0} (P : T → Type 0) (Q : E → Type 0) (r : Result T E) → IsErr r → ((e : E) → Q e) → MatchResult r P Q
 at_err P Q (Ok x) h f = absurd (false≢true h)

@@ -1,8 +1,8 @@
 use Rattle.std.proofs.Common.{◌≡◌, sym, ◌∙◌}
 use Rattle.pf_base.specs.NodeRefs.{has_same_nodes}
-use Rattle.pf_utils.specs.Internal.NodeRefsLaws.{same_nodes_decides}
-use Rattle.pf_utils.proofs.NodeRefsLemmas.{same_nodes-refs}
-use Rattle.pf_utils.proofs.noderefs.NodeRefsPartialEq.eq.Goals as goal
+use Rattle.pf_node_refs.specs.Internal.NodeRefsLaws.{same_nodes_decides}
+use Rattle.pf_node_refs.proofs.NodeRefsLemmas.{same_nodes-refs}
+use Rattle.pf_node_refs.proofs.noderefs.NodeRefsPartialEq.eq.Goals as goal
 
 answers_test : (g : _) (c : goal.After-eq g) → c.eq.result ≡ has_same_nodes g.N.PartialEq.eq c.args.self.now c.args.other.now
 answers_test g c = c.eq.ensures ∙ same_nodes-refs g.met.N.Eq.laws c.self.inside.nodes c.other.inside.nodes ∙ (λ i. has_same_nodes g.N.PartialEq.eq (c.self.view_is i) (c.other.view_is i))

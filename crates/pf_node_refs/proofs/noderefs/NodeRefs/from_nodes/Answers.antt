@@ -3,8 +3,8 @@ use Rattle.std.specs.Prelude.{Result, Ok, Err, IsErrAnd, IfErr}
 use Rattle.std.proofs.lemmas.Result.{IfOk-from_err}
 use Rattle.indexmap.specs.IndexSet.{insert_key}
 use Rattle.indexmap.proofs.SetLemmas.{set_all_push}
-use Rattle.pf_utils.proofs.NodeRefsLemmas.{NoRepeats-distinct, HasSameNodes-insert_all}
-use Rattle.pf_utils.proofs.noderefs.NodeRefs.from_nodes.Goals as goal
+use Rattle.pf_node_refs.proofs.NodeRefsLemmas.{NoRepeats-distinct, HasSameNodes-insert_all}
+use Rattle.pf_node_refs.proofs.noderefs.NodeRefs.from_nodes.Goals as goal
 
 refused_by : {T E : Type 0} (P : E → Type 0) (r : Result T E) → IsErrAnd r P → IfErr r P
 refused_by P (Ok x) h = absurd h

@@ -8,7 +8,7 @@ use Rattle.std.specs.List.{list_any, list_all, IsDistinct, AllByRecursion}
 use Rattle.indexmap.specs.IndexSet.{IndexSet, insert_key, insert_all, index_set_eq}
 use Rattle.pf_base.specs.Walks.{HasNode, NoRepeats}
 use Rattle.pf_base.specs.NodeRefs.{nodes_of, HasSameNodes, is_subset, has_same_nodes, HasNodesGivenBy}
-use Rattle.pf_utils.specs.Internal.NodeRefsLaws.{HasNode-any, any-HasNode, HasNode-equal}
+use Rattle.pf_node_refs.specs.Internal.NodeRefsLaws.{HasNode-any, any-HasNode, HasNode-equal}
 
 module _ {N : Type 0} {eq : N → N → Bool} (laws : IsEquivalence eq) where
   -- ---- references are compared by the nodes that they point to

@@ -2,7 +2,7 @@ use Rattle.std.proofs.Common.{◌≡◌, ℕ, ◌<◌, ◌^◌, sym, ◌∙◌, 
 use Rattle.std.proofs.lemmas.List.{length-map}
 use Rattle.pf_base.specs.Walks.{NoRepeats}
 use Rattle.pf_base.specs.NodeRefs.{nodes_of}
-use Rattle.pf_utils.proofs.noderefs.NodeRefsIntoIterator.into_iter.Goals as goal
+use Rattle.pf_node_refs.proofs.noderefs.NodeRefsIntoIterator.into_iter.Goals as goal
 
 below_room : (k n : ℕ) → k ≡ n → n < 2 ^ 63 → k < 2 ^ 64
 below_room k n e l = omega arith

@@ -1,6 +1,6 @@
 use Rattle.std.proofs.Common.{◌≡◌, [], Bor}
 use Rattle.indexmap.specs.IndexSet.{IsUnique, insert_all}
-use Rattle.pf_utils.proofs.noderefs.NodeRefs.from_nodes.Given as goal
+use Rattle.pf_node_refs.proofs.noderefs.NodeRefs.from_nodes.Given as goal
 
 -- the nodes so far are kept, each once
 abbrev pub invariant-loop-node : goal.invariant-loop-node
