@@ -3,7 +3,7 @@ use Rattle.pf_search.specs.Breadth.{BreadthWalk}
 use Rattle.pf_search.specs.Internal.Breadth.{found_or}
 use Rattle.pf_search.proofs.BreadthSteps.{step_of}
 use Rattle.pf_search.proofs.ItemLemmas.{of_node, progress, breadth_counts}
-use Rattle.pf_search.proofs.directed.bfs_reach.BfsReachableIterator.next.Goals as goal
+use Rattle.pf_search.proofs.directed.bfs_reach.BfsReachableByIterator.next.Goals as goal
 
 pub returns-clause-steps : goal.returns-clause-steps
 returns-clause-steps g c = λ next start w.
@@ -11,7 +11,7 @@ returns-clause-steps g c = λ next start w.
     let e = rw (← c.self-2.view_is) at (c.step-step.ensures.steps next start w) in
     let same = rw (← c.self-2.view_is) at c.step-step.ensures.same in
     let h = sym (ap (λ (v : BreadthWalk g.row.N.Denot g.row.F.Denot). v.refused) c.self.view_is) ∙ c.if-self.false in
-    rw (c.transpose.ensures, c.is_err-self-inside.ensures.value) (step_of g.N.PartialEq.eq g.met.N.Eq.laws _ next start c.args.self.now (found_or i.start i.discovery.nodes.keys) i.given i.refused i.discovery.source.function c.step-step.result h same c.step-step.ensures.refused e)
+    rw (c.transpose.ensures, c.is_err-self-inside.ensures.value) (step_of g.N.PartialEq.eq g.met.N.Eq.laws _ next start c.args.self.now (found_or i.start (g.M.Numbering.keys i.discovery.nodes)) i.given i.refused i.discovery.source.function c.step-step.result h same c.step-step.ensures.refused e)
 
 pub returns-clause-again : goal.returns-clause-again
 returns-clause-again g c =

@@ -5,7 +5,7 @@ use Rattle.pf_base.proofs.Callers.{SameNodes-refl}
 use Rattle.pf_search.specs.Internal.Breadth.{found_or}
 use Rattle.pf_search.proofs.BreadthSteps.{turn_refused, none_waits, start_waits, placed, marked}
 use Rattle.pf_base.proofs.Outcomes.{refused_as}
-use Rattle.pf_search.proofs.directed.bfs_reach.BfsReachable.step.Goals as goal
+use Rattle.pf_search.proofs.directed.bfs_reach.BfsReachableBy.step.Goals as goal
 
 pub returns-in_err-put_start-clause-steps : goal.returns-in_err-put_start-clause-steps
 returns-in_err-put_start-clause-steps g c = λ next start w.
@@ -13,9 +13,9 @@ returns-in_err-put_start-clause-steps g c = λ next start w.
     let laws = g.met.N.Eq.laws in
     let s = c.in_err-put_start.ensures.stays in
     let i = c.self.inside in
-    let keys = found_or i.start i.discovery.nodes.keys in
+    let keys = found_or i.start (g.M.Numbering.keys i.discovery.nodes) in
     let v = rw (← c.self.view_is) at w in
-    rw (← c.self.view_is, s.2, s.3) (v, turn_refused eq laws _ next start keys keys i.given i.refused i.discovery.source.function i.discovery.source.function c.from_residual.result (start_waits i.start i.discovery.nodes.keys i.given s.0 c.self.invariant s.1) c.from_residual.ensures.0 (SameNodes-refl eq laws.refl keys) v)
+    rw (← c.self.view_is, s.2, s.3) (v, turn_refused eq laws _ next start keys keys i.given i.refused i.discovery.source.function i.discovery.source.function c.from_residual.result (start_waits i.start (g.M.Numbering.keys i.discovery.nodes) i.given s.0 c.self.invariant s.1) c.from_residual.ensures.0 (SameNodes-refl eq laws.refl keys) v)
 
 pub returns-then-self-len-clause-steps : goal.returns-then-self-len-clause-steps
 returns-then-self-len-clause-steps g c = λ next start w.
@@ -23,7 +23,7 @@ returns-then-self-len-clause-steps g c = λ next start w.
     let laws = g.met.N.Eq.laws in
     let s = c.in_ok-put_start.ensures.put in
     let i = c.self.inside in
-    let keys = found_or i.start i.discovery.nodes.keys in
+    let keys = found_or i.start (g.M.Numbering.keys i.discovery.nodes) in
     let v = rw (← c.self.view_is) at w in
     let past : length keys ≤ i.given = omega (arith, ap length s.1, c.len.ensures.len, c.if-self-len.true) in
     rw (← c.self.view_is, s.0, s.1) (v, (none_waits eq laws _ next start keys i.given i.refused i.discovery.source.function v past, refl))
@@ -34,9 +34,9 @@ returns-in_err-node-clause-steps g c = λ next start w.
     let laws = g.met.N.Eq.laws in
     let s = c.in_ok-put_start.ensures.put in
     let i = c.self.inside in
-    let keys = found_or i.start i.discovery.nodes.keys in
+    let keys = found_or i.start (g.M.Numbering.keys i.discovery.nodes) in
     let v = rw (← c.self.view_is) at w in
-    let keys' = c.give.new.discovery.nodes.keys in
+    let keys' = g.M.Numbering.keys c.give.new.discovery.nodes in
     let f' = c.give.new.discovery.source.function in
     let within : i.given < length keys = omega (arith, ap length s.1, c.len.ensures.len, c.if-self-len.false) in
     let e = c.in_err-node.ensures in
@@ -50,9 +50,9 @@ returns-clause-steps g c = λ next start w.
     let laws = g.met.N.Eq.laws in
     let s = c.in_ok-put_start.ensures.put in
     let i = c.self.inside in
-    let keys = found_or i.start i.discovery.nodes.keys in
+    let keys = found_or i.start (g.M.Numbering.keys i.discovery.nodes) in
     let v = rw (← c.self.view_is) at w in
-    let keys' = c.give.new.discovery.nodes.keys in
+    let keys' = g.M.Numbering.keys c.give.new.discovery.nodes in
     let f' = c.give.new.discovery.source.function in
     let e = c.in_ok-node.ensures in
     let at = marked eq laws _ next start keys i.given i.refused false i.discovery.source.function v in
@@ -69,7 +69,7 @@ pub returns-in_err-node-clause-few : goal.returns-in_err-node-clause-few
 returns-in_err-node-clause-few g c = IfOk-from_err _ _ c.from_residual-in_err-node.ensures.0
 
 pub returns-clause-few : goal.returns-clause-few
-returns-clause-few g c = omega (arith, length-take (c.self.inside.given + 1) (found_or c.put_start.new.start c.give.new.discovery.nodes.keys), c.len.ensures.small, c.if-self-len.false)
+returns-clause-few g c = omega (arith, length-take (c.self.inside.given + 1) (found_or c.put_start.new.start (g.M.Numbering.keys c.give.new.discovery.nodes)), c.len.ensures.small, c.if-self-len.false)
 
 pub give-requires-clause-clones : goal.give-requires-clause-clones
 give-requires-clause-clones g c = c.requires.clones
@@ -91,7 +91,7 @@ give-requires-clause-walk g c =
     let r = c.requires.walk in
     let i = c.self.inside in
     let v = rw (← c.self.view_is) at r.2 in
-    (r.0, r.1, rw c.in_ok-put_start.ensures.put.1 (marked g.N.PartialEq.eq g.met.N.Eq.laws _ r.0 r.1 (found_or i.start i.discovery.nodes.keys) i.given i.refused false i.discovery.source.function v))
+    (r.0, r.1, rw c.in_ok-put_start.ensures.put.1 (marked g.N.PartialEq.eq g.met.N.Eq.laws _ r.0 r.1 (found_or i.start (g.M.Numbering.keys i.discovery.nodes)) i.given i.refused false i.discovery.source.function v))
 
 pub invariant_of-self : goal.invariant_of-self
 invariant_of-self g c = let s = c.in_err-put_start.ensures.stays in rw (s.2, s.3) c.self.invariant
@@ -100,7 +100,7 @@ pub invariant_of-self-then-self-len : goal.invariant_of-self-then-self-len
 invariant_of-self-then-self-len g c =
     let s = c.in_ok-put_start.ensures.put in
     let i = c.self.inside in
-    rw (s.0, s.1) (placed i.start i.discovery.nodes.keys i.given c.self.invariant)
+    rw (s.0, s.1) (placed i.start (g.M.Numbering.keys i.discovery.nodes) i.given c.self.invariant)
 
 pub invariant_of-self-in_err-node : goal.invariant_of-self-in_err-node
 invariant_of-self-in_err-node g c = rw c.in_ok-put_start.ensures.put.0 (omega (arith, c.in_err-node.ensures.more, c.len.ensures.len, c.if-self-len.false))
