@@ -1,6 +1,6 @@
 use Rattle.std.proofs.Common.{false, ap, subst, sym}
 use Rattle.pf_search.specs.DepthWalks.{DepthWalk, IsDepthWalk}
-use Rattle.pf_search.proofs.directed.dfs_reach.DfsReachable.resume.Goals as goal
+use Rattle.pf_search.proofs.directed.dfs_reach.DfsReachableBy.resume.Goals as goal
 
 pub returns : goal.returns
 returns g c = record {
