@@ -214,11 +214,7 @@ where
         ensures begins { result ≡ Ok (record { given = []; waiting = start ∷ []; refused = false; successors = successors }) }
         ensures graph { IfOk result (λ walk. OfUnweightedGraph N.eq (start ∷ []) (F.answers successors) (λ next. IsBreadthWalk N.eq F.answers next start walk)) }
     {
-        Ok(BfsReachableBy::over(
-            IndexSet::new(alloc),
-            start,
-            successors,
-        ))
+        Ok(BfsReachableBy::over(IndexSet::new(alloc), start, successors))
     }
 }
 

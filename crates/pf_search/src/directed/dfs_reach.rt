@@ -172,12 +172,7 @@ where
             IfOk result (λ walk. IsDepthWalk N.eq F.answers next start [] walk)) }
         ensures good { IsOk result }
     {
-        Ok(DfsReachableBy::over(
-            alloc,
-            IndexSet::new(alloc),
-            start,
-            successors,
-        ))
+        Ok(DfsReachableBy::over(alloc, IndexSet::new(alloc), start, successors))
     }
 }
 

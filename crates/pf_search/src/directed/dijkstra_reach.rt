@@ -153,7 +153,7 @@ where
         ensures begins { IfOk result (λ walk. (walk.given ≡ []) × (walk.refused ≡ false) × (walk.successors ≡ successors)) }
         ensures graph { (start : N) → HasSameNodes N.eq (M.keys nodes) (start ∷ [])
             → IfOk result (λ walk. OfWeightedGraph N.eq (start ∷ []) (F.answers successors) (λ edges.
-                IsCheapestWalk N.eq C.value edges start F.answers walk)) }
+            IsCheapestWalk N.eq C.value edges start F.answers walk)) }
         ensures refused { IfErr result (λ e. e ≡ PathError.OutOfMemory) }
     {
         let search = Search::begin(alloc, nodes.len(), 0)?;
