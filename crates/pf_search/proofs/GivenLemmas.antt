@@ -1,13 +1,17 @@
 -- Lemmas on the nodes that a walk by rising cost gave: those found whose labels are settled.
 use Rattle.std.proofs.Common.{◌≡◌, ℕ, zero, suc, ◌+◌, ◌≤◌, Bool, true, false, cond, Option, Some, None, List, [], ◌∷◌, ◌∙◌, length, refl, sym, ap, subst, arith, inl, inr, true≢false}
-use Rattle.std.specs.Prelude.{Contains, slice_get, map, if◌then◌else◌}
+use Rattle.std.specs.Cmp.{IsEquivalence}
+use Rattle.std.specs.List.{IsDistinct}
+use Rattle.std.specs.Prelude.{◌↔◌, ◌<◌, Contains, slice_get, map, if◌then◌else◌}
 use Rattle.std.proofs.lemmas.List.Sums.{sum_by-cons}
 use Rattle.pf_base.specs.Answers.{SameNodes}
+use Rattle.pf_base.specs.NodeRefs.{HasSameNodes}
 use Rattle.pf_base.specs.Walks.{HasNode, NoRepeats}
 use Rattle.pf_core.specs.declared.labels.Label.{Label}
 use Rattle.pf_core.specs.Labels.{Labels, HasLabel, is_settled, settled_count}
 use Rattle.pf_core.specs.Nodes.{StandsFor}
 use Rattle.pf_base.proofs.ListLemmas.{Contains-head, Contains-tail, Contains-cases, none_in}
+use Rattle.pf_core.proofs.UnitLemmas.{starts_stand}
 use Rattle.pf_search.specs.CheapestFirst.{CheapestWalk, IsGiven}
 use Rattle.pf_search.specs.Internal.CheapestSearch.{CheapestSearch, given_of}
 
@@ -102,6 +106,21 @@ module _ {N C : Type 0} where
         by : (b : Bool) → SameNodes eq (Nodes (given_of ys ls)) (Nodes (given_of xs ls)) → SameNodes eq (Nodes (if b then (y, l.cost) ∷ given_of ys ls else given_of ys ls)) (Nodes (if b then (x, l.cost) ∷ given_of xs ls else given_of xs ls))
         by true rest = (s.0, rest)
         by false rest = rest
+
+-- a list of one node that has the same nodes as the start alone
+module _ {N : Type 0} (eq : N → N → Bool) (laws : IsEquivalence eq) where
+  pub one_distinct : (keys : List N) → length keys ≡ 1 → IsDistinct eq keys
+  unfolding IsDistinct
+  one_distinct [] one = absurd (omega (arith, one))
+  one_distinct (k ∷ []) one = (tt, tt)
+  one_distinct (k ∷ l ∷ keys) one = absurd (omega (arith, one))
+
+  pub one_begins : (keys : List N) (start : N) → length keys ≡ 1 → HasSameNodes eq keys (start ∷ []) → (x : N) → StandsFor eq keys 0 x ↔ (eq start x ≡ true)
+  one_begins keys start one same x =
+      let s = starts_stand eq laws (start ∷ []) keys same x in (
+        λ h. elim (s.0 (0, omega (arith, one), h)) as (λ _. eq start x ≡ true) [ inl e ↦ e | inr f ↦ absurd f ],
+        λ e. let b = s.1 (inl e) in subst (λ (k : ℕ). StandsFor eq keys k x) (omega (arith, one, b.1)) b.2,
+      )
 
 -- the label of the node is settled, at this cost
 abbrev pub IsSettled : {N C : Type 0} → (N → N → Bool) → CheapestSearch N C → N → C → Type 0

@@ -12,10 +12,10 @@ ghost use Rattle.pf_search.specs.CheapestFirst.{IsGiven, given_nodes};
 ghost use Rattle.pf_search.specs.Laws.{Agree, HasEqualSuccessors, HasEqualEdges, OfPreorder, OfBreadthOrder, OfEachCheapestWalk};
 ghost use Rattle.pf_search.specs.Parents.{IsCheapestMap, IsChainOfParents, IsLeastCost};
 
-use crate::directed::dijkstra::DijkstraReachable;
+use crate::directed::dijkstra::DijkstraReachableBy;
 use pf_base::{Cost, EdgeFunction};
+use pf_discovery::numbering::Numbering;
 use std::alloc::Allocator;
-use std::hash::Hash;
 use std::marker::PhantomData;
 
 /// In one graph, a path with fewest edges has at most as many edges as a cheapest path.
@@ -80,9 +80,10 @@ pub fn breadth_order_is_by_distance<N: Eq>(_of: PhantomData<N>)
 /// no more were given than any list has that has every node in reach.
 ///
 /// This holds of each walk of the type of the one that is handed in, which is not changed.
-pub fn cheapest_order_is_reach<N, C, F, A>(_of: &DijkstraReachable<N, C, F, A>)
+pub fn cheapest_order_is_reach<N, M, C, F, A>(_of: &DijkstraReachableBy<M, C, F, A>)
 where
-    N: Eq + Hash,
+    N: Eq,
+    M: Numbering<Node = N>,
     C: Cost,
     F: EdgeFunction<N, C>,
     A: Allocator,

@@ -7,7 +7,11 @@ ghost use Rattle.pf_search.specs.Preorder.{IsFirstTreePath};
 ghost use Rattle.pf_tables.specs.Graphs.{successors_of};
 
 use pf_base::{Cost, PathError};
+use pf_search::directed::dfs::dfs_over;
 use pf_table_functions::edges::ends_of;
+use pf_table_functions::goal_test::GoalTest;
+use pf_table_functions::neighbours::Neighbours;
+use pf_table_functions::table_nodes::TableNodes;
 use pf_tables::{Goals, Graph};
 use std::alloc::Allocator;
 
@@ -15,7 +19,7 @@ use std::alloc::Allocator;
 /// exactly where no walk leads from `from` to a goal. What the edges cost plays no part.
 ///
 /// The path contains no node twice; it need not have fewest edges. A number that is no node of the
-/// graph has no edges.
+/// graph has no edges. A number is laid out for each node of the graph, and nothing is hashed.
 ///
 /// # Errors
 ///
@@ -40,11 +44,12 @@ where
         × IsFirstTreePath nat_eq (successors_of C.value (G.size graph.now) (G.places graph.now)) from (T.passes goals) path.items)) }
     ensures errors { IfErr result (λ e. e ≡ PathError.OutOfMemory) }
 {
-    pf_search::directed::dfs::dfs(
+    dfs_over(
         alloc,
+        TableNodes::new(alloc, graph.len()),
         from,
-        |n: &usize| ends_of(graph, *n),
-        |n: &usize| goals.is_goal(*n),
+        Neighbours::new(graph),
+        GoalTest::new(goals),
     )
 }
 

@@ -8,8 +8,9 @@ ghost use Rattle.pf_tables.specs.Graphs.{successors_of};
 ghost use Rattle.pf_table_searches.specs.TableWalks.{IsPreorderWalkInTable, IsPreorderWalkAlong, PreorderStepInTable};
 
 use pf_base::{Cost, PathError};
-use pf_search::directed::dfs;
+use pf_search::directed::dfs::DfsReachableBy;
 use pf_table_functions::neighbours::Neighbours;
+use pf_table_functions::table_nodes::TableNodes;
 use pf_tables::Graph;
 use std::alloc::{Allocator, Global};
 use std::marker::Model;
@@ -19,7 +20,7 @@ use std::marker::Model;
 pub struct DfsReachable<'a, C: Cost, G: Graph<C>, A: Allocator = Global> {
     graph: &'a G,
     start: usize,
-    walk: dfs::DfsReachable<usize, Neighbours<'a, C, G>, A>,
+    walk: DfsReachableBy<TableNodes<A>, Neighbours<'a, C, G>, A>,
 }
 
 impl<'a, C: Cost, G: Graph<C>, A: Allocator> Model for DfsReachable<'a, C, G, A> {
@@ -92,7 +93,8 @@ where
 /// A number that is no node of the graph has no edges, so that from it the walk gives it alone. A
 /// `for` over a walk ends, and the walk can be resumed behind it.
 ///
-/// This call takes no memory.
+/// This call takes no memory. The first step lays out a number for each node of the graph, and nothing is
+/// hashed.
 ///
 /// # Errors
 ///
@@ -115,6 +117,7 @@ where
     ensures graph { IfOk result (IsPreorderWalkAlong C.value G.size G.places []) }
     ensures good { IsOk result }
 {
-    let walk = dfs::DfsReachable::new(alloc, start, Neighbours::new(graph))?;
+    let nodes = TableNodes::new(alloc, graph.len());
+    let walk = DfsReachableBy::over(alloc, nodes, start, Neighbours::new(graph));
     Ok(DfsReachable { graph, start, walk })
 }

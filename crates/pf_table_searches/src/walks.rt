@@ -6,9 +6,10 @@ ghost use Rattle.pf_search.specs.Items.{most_items};
 ghost use Rattle.pf_table_searches.specs.TableWalks.{IsBreadthWalkInTable, BreadthStepInTable, IsCheapestWalkInTable, IsBarredInTable, CheapestStepInTable};
 
 use pf_base::{Cost, PathError};
-use pf_search::directed::dijkstra::DijkstraReachableItem;
-use pf_search::directed::{bfs, dijkstra};
+use pf_search::directed::bfs::BfsReachableBy;
+use pf_search::directed::dijkstra::{DijkstraReachableBy, DijkstraReachableItem};
 use pf_table_functions::neighbours::Neighbours;
+use pf_table_functions::table_nodes::TableNodes;
 use pf_tables::Graph;
 use std::alloc::{Allocator, Global};
 use std::marker::Model;
@@ -18,7 +19,7 @@ use std::marker::Model;
 pub struct BfsReachable<'a, C: Cost, G: Graph<C>, A: Allocator = Global> {
     graph: &'a G,
     start: usize,
-    walk: bfs::BfsReachable<usize, Neighbours<'a, C, G>, A>,
+    walk: BfsReachableBy<TableNodes<A>, Neighbours<'a, C, G>>,
 }
 
 impl<'a, C: Cost, G: Graph<C>, A: Allocator> Model for BfsReachable<'a, C, G, A> {
@@ -88,7 +89,8 @@ where
 /// A number that is no node of the graph has no edges, so that from it the walk gives it alone. A
 /// `for` over a walk ends, and the walk can be resumed behind it.
 ///
-/// This call takes no memory.
+/// This call takes no memory. The first step lays out a number for each node of the graph, and nothing is
+/// hashed.
 ///
 /// # Errors
 ///
@@ -109,7 +111,8 @@ where
     ensures begins { result ≡ Ok (record { table = graph.now; start = start; walk = record { given = []; waiting = start ∷ []; refused = false; successors = graph.now } }) }
     ensures graph { IfOk result (IsBreadthWalkInTable C.value G.size G.places) }
 {
-    let walk = bfs::BfsReachable::new(alloc, start, Neighbours::new(graph))?;
+    let nodes = TableNodes::new(alloc, graph.len());
+    let walk = BfsReachableBy::over(nodes, start, Neighbours::new(graph));
     Ok(BfsReachable { graph, start, walk })
 }
 
@@ -118,7 +121,7 @@ where
 pub struct DijkstraReachable<'a, C: Cost, G: Graph<C>, A: Allocator = Global> {
     graph: &'a G,
     start: usize,
-    walk: dijkstra::DijkstraReachable<usize, C, Neighbours<'a, C, G>, A>,
+    walk: DijkstraReachableBy<TableNodes<A>, C, Neighbours<'a, C, G>, A>,
 }
 
 impl<'a, C: Cost, G: Graph<C>, A: Allocator> Model for DijkstraReachable<'a, C, G, A> {
@@ -174,6 +177,8 @@ where
 /// is no node of the graph has no edges, so that from it the walk gives it alone. A `for` over a walk
 /// ends, and the walk can be resumed behind it.
 ///
+/// This call lays out a number for each node of the graph, and nothing is hashed.
+///
 /// # Errors
 ///
 /// This call answers `OutOfMemory` where a request for memory was refused. A step is
@@ -202,6 +207,7 @@ where
     ensures refused { IfErr result (λ e. e ≡ PathError.OutOfMemory) }
 {
     graph.known();
-    let walk = dijkstra::DijkstraReachable::new(alloc, &start, Neighbours::new(graph))?;
+    let nodes = TableNodes::begin(alloc, graph.len(), start)?;
+    let walk = DijkstraReachableBy::over(alloc, nodes, Neighbours::new(graph))?;
     Ok(DijkstraReachable { graph, start, walk })
 }

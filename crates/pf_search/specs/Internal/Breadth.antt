@@ -3,7 +3,6 @@ use Rattle.std.specs.Prelude.{◌≡◌, ◌≤◌, ◌++◌, ℕ, take, drop, l
 use Rattle.pf_base.specs.declared.error.PathError.{PathError}
 use Rattle.pf_base.specs.Answers.{SameNodes}
 use Rattle.pf_base.specs.Orders.{IsNextInBreadth, AllGiven}
-use Rattle.std.specs.HashSet.{HashSet}
 use Rattle.pf_discovery.specs.declared.discovery.DiscoveryBy.{DiscoveryBy}
 use Rattle.pf_discovery.specs.declared.source.Unweighted.{Unweighted}
 use Rattle.pf_search.specs.Breadth.{BreadthWalk}
@@ -12,9 +11,9 @@ use Rattle.pf_search.specs.Breadth.{BreadthWalk}
 abbrev pub walk_at : {N F : Type 0} → List N → ℕ → Bool → F → BreadthWalk N F
 walk_at found given refused successors = record { given = take given found; waiting = drop given found; refused = refused; successors = successors }
 
--- the same of what a discovery found, where no step was refused
-abbrev pub walk_in : {N F H : Type 0} → DiscoveryBy (HashSet N H) (Unweighted F) → ℕ → BreadthWalk N F
-walk_in discovery given = walk_at discovery.nodes.keys given false discovery.source.function
+-- the same of what a discovery found, whose numbering has these nodes, where no step was refused
+abbrev pub walk_in : {N M F : Type 0} → (M → List N) → DiscoveryBy M (Unweighted F) → ℕ → BreadthWalk N F
+walk_in keys discovery given = walk_at (keys discovery.nodes) given false discovery.source.function
 
 -- the nodes found, where a start that was not put in yet counts as found
 abbrev pub found_or : {N : Type 0} → Option N → List N → List N

@@ -10,7 +10,7 @@ ghost use Rattle.pf_discovery.specs.ExploredHops.{ExploresHops};
 
 mod loops;
 
-pub use crate::directed::bfs_reach::{BfsReachable, bfs_reach};
+pub use crate::directed::bfs_reach::{BfsReachable, BfsReachableBy, bfs_reach};
 pub use loops::bfs_loop;
 use pf_base::{NodeTest, PathError, SuccessorFunction};
 use pf_core::bfs::fewest_edges_path;

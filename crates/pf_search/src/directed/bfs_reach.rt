@@ -13,29 +13,27 @@ use indexmap::IndexSet;
 use pf_base::{PathError, SuccessorFunction};
 use pf_core::numbered::NumberedGraph;
 use pf_core::row::NoRow;
-use pf_discovery::discovery::{Discovery, Nodes};
+use pf_discovery::discovery::{DiscoveryBy, Nodes};
+use pf_discovery::numbering::Numbering;
 use pf_discovery::source::Unweighted;
 use std::alloc::{Allocator, Global};
 use std::hash::Hash;
 use std::marker::Model;
 
-/// Puts the start into the set of nodes, unless that was done. Where memory is refused, all stays.
-pub(crate) fn put_start<N, A>(
-    start: &mut Option<N>,
-    nodes: &mut Nodes<N, A>,
-) -> Result<(), PathError>
+/// Gives the start a number, unless that was done. Where memory is refused, all stays.
+pub(crate) fn put_start<N, M>(start: &mut Option<N>, nodes: &mut M) -> Result<(), PathError>
 where
-    N: Eq + Hash + Drop,
-    A: Allocator + Copy,
-    requires { BeginsEmpty start.old nodes.old.keys }
-    ensures put { OnOk result ((start.new ≡ None) × (nodes.new.keys ≡ found_or start.old nodes.old.keys)) }
-    ensures stays { OnErr result ((node : N) × (start.old ≡ Some node) × (start.new ≡ start.old) × (nodes.new.keys ≡ nodes.old.keys)) }
+    N: Eq + Drop,
+    M: Numbering<Node = N>,
+    requires { BeginsEmpty start.old (M.keys nodes.old) }
+    ensures put { OnOk result ((start.new ≡ None) × (M.keys nodes.new ≡ found_or start.old (M.keys nodes.old))) }
+    ensures stays { OnErr result ((node : N) × (start.old ≡ Some node) × (start.new ≡ start.old) × (M.keys nodes.new ≡ M.keys nodes.old)) }
     ensures refused { IfErr result (λ e. e ≡ PathError.OutOfMemory) }
 {
     let Some(node) = start.take() else {
         return Ok(());
     };
-    match nodes.insert(node) {
+    match nodes.number_of(node) {
         Ok(_) => Ok(()),
         Err(refusal) => {
             *start = Some(refusal.value);
@@ -46,24 +44,24 @@ where
 
 /// A clone of the node of this number, whose successors are numbered. Where memory is refused, the
 /// nodes stay as they were.
-fn give<N, F, A>(
-    discovery: &mut Discovery<N, Unweighted<F>, A>,
+fn give<N, M, F>(
+    discovery: &mut DiscoveryBy<M, Unweighted<F>>,
     number: usize,
 ) -> Result<N, PathError>
 where
-    N: Eq + Hash + Clone + Drop,
+    N: Eq + Clone + Drop,
+    M: Numbering<Node = N>,
     F: SuccessorFunction<N>,
-    A: Allocator + Copy,
-    requires inside { number < length discovery.old.nodes.keys }
+    requires inside { number < length (M.keys discovery.old.nodes) }
     requires clones { IsLawfulClone N.eq N.is_clone }
-    requires walk { IsSomeBreadthWalk N.eq F.answers (walk_in discovery.old number) }
-    ensures walk { OfBreadthWalk N.eq F.answers (walk_in discovery.old number) (λ next start.
-        IfOk result (λ node. IsBreadthWalk N.eq F.answers next start (walk_in discovery.new (number + 1))
-        × IsNextInBreadth N.eq next start (take number discovery.old.nodes.keys) node)
-        × OnErr result (IsBreadthWalk N.eq F.answers next start (walk_in discovery.new number))) }
-    ensures given { IfOk result (λ node. SameNodes N.eq (take (number + 1) discovery.new.nodes.keys) (take number discovery.old.nodes.keys ++ node ∷ [])) }
-    ensures stays { OnErr result (SameNodes N.eq discovery.new.nodes.keys discovery.old.nodes.keys) }
-    ensures more { length discovery.old.nodes.keys ≤ length discovery.new.nodes.keys }
+    requires walk { IsSomeBreadthWalk N.eq F.answers (walk_in M.keys discovery.old number) }
+    ensures walk { OfBreadthWalk N.eq F.answers (walk_in M.keys discovery.old number) (λ next start.
+        IfOk result (λ node. IsBreadthWalk N.eq F.answers next start (walk_in M.keys discovery.new (number + 1))
+        × IsNextInBreadth N.eq next start (take number (M.keys discovery.old.nodes)) node)
+        × OnErr result (IsBreadthWalk N.eq F.answers next start (walk_in M.keys discovery.new number))) }
+    ensures given { IfOk result (λ node. SameNodes N.eq (take (number + 1) (M.keys discovery.new.nodes)) (take number (M.keys discovery.old.nodes) ++ node ∷ [])) }
+    ensures stays { OnErr result (SameNodes N.eq (M.keys discovery.new.nodes) (M.keys discovery.old.nodes)) }
+    ensures more { length (M.keys discovery.old.nodes) ≤ length (M.keys discovery.new.nodes) }
     ensures refused { IfErr result (λ e. e ≡ PathError.OutOfMemory) }
 {
     let node = discovery.nodes.as_slice()[number].clone()?;
@@ -71,33 +69,36 @@ where
     Ok(node)
 }
 
-/// The nodes in reach of a start in breadth order, each as a `Result`: made by `bfs_reach`.
+/// The nodes in reach of a start in breadth order, each as a `Result`, with numbers by `M`.
 #[derive(Drop)]
-pub struct BfsReachable<N: Eq + Hash, F, A: Allocator = Global> {
-    start: Option<N>,
-    discovery: Discovery<N, Unweighted<F>, A>,
+pub struct BfsReachableBy<M: Numbering, F> {
+    start: Option<M::Node>,
+    discovery: DiscoveryBy<M, Unweighted<F>>,
     given: usize,
     refused: bool,
 }
 
-impl<N: Eq + Hash, F, A: Allocator> Model for BfsReachable<N, F, A> {
+/// The nodes in reach of a start in breadth order, each as a `Result`: made by `bfs_reach`.
+pub type BfsReachable<N, F, A = Global> = BfsReachableBy<Nodes<N, A>, F>;
+
+impl<M: Numbering, F> Model for BfsReachableBy<M, F> {
     ghost use Rattle.pf_search.specs.Breadth.{BreadthWalk, breadth_walk_code};
     ghost use Rattle.pf_search.specs.Internal.Breadth.{walk_at, found_or, IsPlace};
 
-    ghost Value = { BreadthWalk N F };
+    ghost Value = { BreadthWalk M.Node F };
 
-    ghost coded = { breadth_walk_code N.code F.code };
+    ghost coded = { breadth_walk_code M.Node.code F.code };
 
-    ghost view = { λ s. walk_at (found_or s.start s.discovery.nodes.keys) s.given s.refused s.discovery.source.function };
+    ghost view = { λ s. walk_at (found_or s.start (M.keys s.discovery.nodes)) s.given s.refused s.discovery.source.function };
 
-    ghost invariant = { λ s. IsPlace s.start s.discovery.nodes.keys s.given };
+    ghost invariant = { λ s. IsPlace s.start (M.keys s.discovery.nodes) s.given };
 }
 
-impl<N, F, A> Iterator for BfsReachable<N, F, A>
+impl<N, M, F> Iterator for BfsReachableBy<M, F>
 where
-    N: Eq + Hash + Clone + Drop,
+    N: Eq + Clone + Drop,
+    M: Numbering<Node = N> + Drop,
     F: SuccessorFunction<N>,
-    A: Allocator + Copy,
 {
     type Item = Result<N, PathError>;
 
@@ -109,10 +110,10 @@ where
     ghost remaining = { λ s. at_most (most_items (length s.given) s.refused) };
 
     fn next(&mut self) -> Option<Result<N, PathError>>
-        requires { ⟦<BfsReachable<N, F, A> as Iterator>⟧.can_next self.old }
-        ensures steps { ⟦<BfsReachable<N, F, A> as Iterator>⟧.next_gives self.old result self.new }
-        ensures goes { MakesProgress ⟦<BfsReachable<N, F, A> as Iterator>⟧.can_next ⟦<BfsReachable<N, F, A> as Iterator>⟧.remaining self.old result self.new }
-        ensures again { ⟦<BfsReachable<N, F, A> as Iterator>⟧.can_next self.new }
+        requires { ⟦<BfsReachableBy<M, F> as Iterator>⟧.can_next self.old }
+        ensures steps { ⟦<BfsReachableBy<M, F> as Iterator>⟧.next_gives self.old result self.new }
+        ensures goes { MakesProgress ⟦<BfsReachableBy<M, F> as Iterator>⟧.can_next ⟦<BfsReachableBy<M, F> as Iterator>⟧.remaining self.old result self.new }
+        ensures again { ⟦<BfsReachableBy<M, F> as Iterator>⟧.can_next self.new }
     {
         if self.refused {
             return None;
@@ -123,34 +124,30 @@ where
     }
 }
 
-impl<N, F, A> BfsReachable<N, F, A>
+impl<N, M, F> BfsReachableBy<M, F>
 where
-    N: Eq + Hash + Clone + Drop,
+    N: Eq + Clone + Drop,
+    M: Numbering<Node = N>,
     F: SuccessorFunction<N>,
-    A: Allocator + Copy,
 {
-    /// A walk as `bfs_reach` makes it, over any function of the trait: a closure, or a type of the
-    /// caller's own that implements it.
-    ///
-    /// # Errors
-    ///
-    /// This call answers `Ok`.
-    pub fn new(alloc: A, start: N, successors: F) -> Result<BfsReachable<N, F, A>, PathError>
-        ensures begins { result ≡ Ok (record { given = []; waiting = start ∷ []; refused = false; successors = successors }) }
-        ensures graph { IfOk result (λ walk. OfUnweightedGraph N.eq (start ∷ []) (F.answers successors) (λ next. IsBreadthWalk N.eq F.answers next start walk)) }
+    /// A walk as `bfs_reach` makes it, over any function of the trait, whose nodes are numbered by any
+    /// numbering that has none yet. This call takes no memory.
+    pub fn over(nodes: M, start: N, successors: F) -> BfsReachableBy<M, F>
+        requires empty { M.keys nodes ≡ [] }
+        ensures begins { result ≡ record { given = []; waiting = start ∷ []; refused = false; successors = successors } }
+        ensures graph { OfUnweightedGraph N.eq (start ∷ []) (F.answers successors) (λ next. IsBreadthWalk N.eq F.answers next start result) }
     {
-        let discovery = Discovery {
-            nodes: IndexSet::new(alloc),
-            source: Unweighted {
-                function: successors,
-            },
-        };
-        Ok(BfsReachable {
+        BfsReachableBy {
             start: Some(start),
-            discovery,
+            discovery: DiscoveryBy {
+                nodes,
+                source: Unweighted {
+                    function: successors,
+                },
+            },
             given: 0,
             refused: false,
-        })
+        }
     }
 
     /// Lets the next call of `next` try again the step that was refused. Where no step was refused
@@ -183,10 +180,10 @@ where
     }
 }
 
-impl<N, F, A> BfsReachable<N, F, A>
+impl<N, M, F> BfsReachableBy<M, F>
 where
-    N: Eq + Hash,
-    A: Allocator,
+    N: Eq,
+    M: Numbering<Node = N>,
 {
     /// The number of nodes that were found (the start, and each successor of a given node) and not
     /// yet given, each once. At least so many nodes are still to come.
@@ -198,6 +195,26 @@ where
             None => self.discovery.nodes.len(),
         };
         found - self.given
+    }
+}
+
+impl<N, F, A> BfsReachable<N, F, A>
+where
+    N: Eq + Hash + Clone + Drop,
+    F: SuccessorFunction<N>,
+    A: Allocator + Copy,
+{
+    /// A walk as `bfs_reach` makes it, over any function of the trait: a closure, or a type of the
+    /// caller's own that implements it.
+    ///
+    /// # Errors
+    ///
+    /// This call answers `Ok`.
+    pub fn new(alloc: A, start: N, successors: F) -> Result<BfsReachable<N, F, A>, PathError>
+        ensures begins { result ≡ Ok (record { given = []; waiting = start ∷ []; refused = false; successors = successors }) }
+        ensures graph { IfOk result (λ walk. OfUnweightedGraph N.eq (start ∷ []) (F.answers successors) (λ next. IsBreadthWalk N.eq F.answers next start walk)) }
+    {
+        Ok(BfsReachableBy::over(IndexSet::new(alloc), start, successors))
     }
 }
 

@@ -6,19 +6,22 @@ ghost use Rattle.pf_base.specs.Successors.{AnswersUnweightedSearch, OfUnweighted
 ghost use Rattle.pf_search.specs.Preorder.{IsFirstTreePathOrNone};
 ghost use Rattle.pf_search.specs.Internal.Depth.{IsTestedWalk};
 
-pub use crate::directed::dfs_reach::{DfsReachable, dfs_reach};
+pub use crate::directed::dfs_reach::{DfsReachable, DfsReachableBy, dfs_reach};
+use indexmap::IndexSet;
 use pf_base::{NodeTest, PathError, SuccessorFunction};
+use pf_discovery::numbering::Numbering;
 use std::alloc::Allocator;
 use std::hash::Hash;
 
 /// The tree path to the first node that passes, on a walk that has given none yet.
-fn path_to_first<N, F, T, A>(
+fn path_to_first<N, M, F, T, A>(
     alloc: A,
-    walk: &mut DfsReachable<N, F, A>,
+    walk: &mut DfsReachableBy<M, F, A>,
     success: &mut T,
 ) -> Result<Option<Vec<N, A>>, PathError>
 where
-    N: Eq + Hash + Clone + Drop,
+    N: Eq + Clone + Drop,
+    M: Numbering<Node = N>,
     F: SuccessorFunction<N>,
     T: NodeTest<N>,
     A: Allocator + Copy,
@@ -45,6 +48,38 @@ where
     Err(PathError::OutOfMemory)
 }
 
+/// The path as `dfs` answers it, over any function and any test of the traits, whose nodes are numbered
+/// by any numbering that has none yet.
+///
+/// # Errors
+///
+/// `OutOfMemory`: a request for memory was refused.
+pub fn dfs_over<N, M, F, T, A>(
+    alloc: A,
+    nodes: M,
+    start: N,
+    successors: F,
+    mut success: T,
+) -> Result<Option<Vec<N, A>>, PathError>
+where
+    N: Eq + Clone + Drop,
+    M: Numbering<Node = N> + Drop,
+    F: SuccessorFunction<N>,
+    T: NodeTest<N>,
+    A: Allocator + Copy,
+    requires clones { IsLawfulClone N.eq N.is_clone }
+    requires empty { M.keys nodes ≡ [] }
+    requires graph { AnswersUnweightedSearch N.eq (start ∷ []) (F.answers successors) (T.answers success) }
+
+    ensures first { OfUnweightedSearch N.eq (start ∷ []) (F.answers successors) (T.answers success) (λ next test.
+        IfOk result (IsFirstTreePathOrNone N.eq next start test)) }
+
+    ensures errors { IfErr result (λ e. e ≡ PathError.OutOfMemory) }
+{
+    let mut walk = DfsReachableBy::over(alloc, nodes, start, successors);
+    path_to_first(alloc, &mut walk, &mut success)
+}
+
 /// The tree path of a depth-first search from the start to the first node that passes `success`, or
 /// `None` exactly where no walk leads from the start to such a node.
 ///
@@ -64,7 +99,7 @@ pub fn dfs<N, IN, FN, FS, A>(
     alloc: A,
     start: N,
     successors: FN,
-    mut success: FS,
+    success: FS,
 ) -> Result<Option<Vec<N, A>>, PathError>
 where
     N: Eq + Hash + Clone + Drop,
@@ -80,6 +115,5 @@ where
 
     ensures errors { IfErr result (λ e. e ≡ PathError.OutOfMemory) }
 {
-    let mut walk = dfs_reach(alloc, start, successors)?;
-    path_to_first(alloc, &mut walk, &mut success)
+    dfs_over(alloc, IndexSet::new(alloc), start, successors, success)
 }

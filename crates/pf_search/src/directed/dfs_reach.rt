@@ -17,64 +17,64 @@ use pf_base::{PathError, SuccessorFunction};
 use pf_core::clones::clones_at;
 use pf_core::numbered::NumberedGraph;
 use pf_discovery::depth_first::DepthFirst;
-use pf_discovery::discovery::Discovery;
+use pf_discovery::discovery::{DiscoveryBy, Nodes};
+use pf_discovery::numbering::Numbering;
 use pf_discovery::source::Unweighted;
 use std::alloc::{Allocator, Global};
 use std::hash::Hash;
 use std::marker::Model;
 
-/// The nodes in reach of a start, in preorder.
+/// The nodes in reach of a start in preorder, each as a `Result`, with numbers by `M`.
 #[derive(Drop)]
-pub struct DfsReachable<N: Eq + Hash, F, A: Allocator = Global> {
-    start: Option<N>,
-    graph: Discovery<N, Unweighted<F>, A>,
+pub struct DfsReachableBy<M: Numbering, F, A: Allocator> {
+    start: Option<M::Node>,
+    graph: DiscoveryBy<M, Unweighted<F>>,
     walk: DepthFirst<A>,
     refused: bool,
 }
 
-impl<N: Eq + Hash, F, A: Allocator> Model for DfsReachable<N, F, A> {
+/// The nodes in reach of a start in preorder, each as a `Result`: made by `dfs_reach`.
+pub type DfsReachable<N, F, A = Global> = DfsReachableBy<Nodes<N, A>, F, A>;
+
+impl<M: Numbering, F, A: Allocator> Model for DfsReachableBy<M, F, A> {
     ghost use Rattle.pf_search.specs.DepthWalks.{DepthWalk, walk_code};
     ghost use Rattle.pf_search.specs.Internal.Breadth.{found_or};
     ghost use Rattle.pf_search.specs.Internal.Depth.{stack_of, walk_with, ArePlaces};
 
-    ghost Value = { DepthWalk N F };
+    ghost Value = { DepthWalk M.Node F };
 
-    ghost coded = { walk_code N.code F.code };
+    ghost coded = { walk_code M.Node.code F.code };
 
-    ghost view = { λ s. walk_with (found_or s.start s.graph.nodes.keys) (stack_of s.walk) s.refused s.graph.source.function };
+    ghost view = { λ s. walk_with (found_or s.start (M.keys s.graph.nodes)) (stack_of s.walk) s.refused s.graph.source.function };
 
-    ghost invariant = { λ s. ArePlaces s.start s.graph.nodes.keys s.walk.given.items };
+    ghost invariant = { λ s. ArePlaces s.start (M.keys s.graph.nodes) s.walk.given.items };
 }
 
-impl<N, F, A> DfsReachable<N, F, A>
+impl<N, M, F, A> DfsReachableBy<M, F, A>
 where
-    N: Eq + Hash + Clone + Drop,
+    N: Eq + Clone + Drop,
+    M: Numbering<Node = N>,
     F: SuccessorFunction<N>,
     A: Allocator + Copy,
 {
-    /// A walk as `dfs_reach` makes it, over any function of the trait: a closure, or a type of the
-    /// caller's own that implements it.
-    ///
-    /// # Errors
-    ///
-    /// None, as of `dfs_reach`.
-    pub fn new(alloc: A, start: N, successors: F) -> Result<DfsReachable<N, F, A>, PathError>
-        ensures ready { IfOk result (λ walk. walk.refused ≡ false) }
-        ensures graph { OfUnweightedGraph N.eq (start ∷ []) (F.answers successors) (λ next.
-            IfOk result (λ walk. IsDepthWalk N.eq F.answers next start [] walk)) }
-        ensures good { IsOk result }
+    /// A walk as `dfs_reach` makes it, over any function of the trait, whose nodes are numbered by any
+    /// numbering that has none yet. This call takes no memory.
+    pub fn over(alloc: A, nodes: M, start: N, successors: F) -> DfsReachableBy<M, F, A>
+        requires empty { M.keys nodes ≡ [] }
+        ensures ready { result.refused ≡ false }
+        ensures graph { OfUnweightedGraph N.eq (start ∷ []) (F.answers successors) (λ next. IsDepthWalk N.eq F.answers next start [] result) }
     {
-        Ok(DfsReachable {
+        DfsReachableBy {
             start: Some(start),
-            graph: Discovery {
-                nodes: IndexSet::new(alloc),
+            graph: DiscoveryBy {
+                nodes,
                 source: Unweighted {
                     function: successors,
                 },
             },
             walk: DepthFirst::new(alloc),
             refused: false,
-        })
+        }
     }
 
     /// Goes along the next tree path, and answers a clone of its last node. Where memory is refused, the
@@ -99,9 +99,10 @@ where
     }
 }
 
-impl<N, F, A> DfsReachable<N, F, A>
+impl<N, M, F, A> DfsReachableBy<M, F, A>
 where
-    N: Eq + Hash + Clone + Drop,
+    N: Eq + Clone + Drop,
+    M: Numbering<Node = N>,
     A: Allocator + Copy,
 {
     /// Clones of the nodes of the last tree path.
@@ -116,9 +117,10 @@ where
     }
 }
 
-impl<N, F, A> Iterator for DfsReachable<N, F, A>
+impl<N, M, F, A> Iterator for DfsReachableBy<M, F, A>
 where
-    N: Eq + Hash + Clone + Drop,
+    N: Eq + Clone + Drop,
+    M: Numbering<Node = N> + Drop,
     F: SuccessorFunction<N>,
     A: Allocator + Copy,
 {
@@ -137,10 +139,10 @@ where
     ///
     /// After an `Err` the walk is as before that step, and answers `None` until `resume` is called.
     fn next(&mut self) -> Option<Result<N, PathError>>
-        requires { ⟦<DfsReachable<N, F, A> as Iterator>⟧.can_next self.old }
-        ensures steps { ⟦<DfsReachable<N, F, A> as Iterator>⟧.next_gives self.old result self.new }
-        ensures goes { MakesProgress ⟦<DfsReachable<N, F, A> as Iterator>⟧.can_next ⟦<DfsReachable<N, F, A> as Iterator>⟧.remaining self.old result self.new }
-        ensures again { ⟦<DfsReachable<N, F, A> as Iterator>⟧.can_next self.new }
+        requires { ⟦<DfsReachableBy<M, F, A> as Iterator>⟧.can_next self.old }
+        ensures steps { ⟦<DfsReachableBy<M, F, A> as Iterator>⟧.next_gives self.old result self.new }
+        ensures goes { MakesProgress ⟦<DfsReachableBy<M, F, A> as Iterator>⟧.can_next ⟦<DfsReachableBy<M, F, A> as Iterator>⟧.remaining self.old result self.new }
+        ensures again { ⟦<DfsReachableBy<M, F, A> as Iterator>⟧.can_next self.new }
         ensures refused { IfSome result (λ item. IfErr item (λ e. e ≡ PathError.OutOfMemory)) }
     {
         if self.refused {
@@ -149,6 +151,28 @@ where
         let step = self.step();
         self.refused = step.is_err();
         step.transpose()
+    }
+}
+
+impl<N, F, A> DfsReachable<N, F, A>
+where
+    N: Eq + Hash + Clone + Drop,
+    F: SuccessorFunction<N>,
+    A: Allocator + Copy,
+{
+    /// A walk as `dfs_reach` makes it, over any function of the trait: a closure, or a type of the
+    /// caller's own that implements it.
+    ///
+    /// # Errors
+    ///
+    /// None, as of `dfs_reach`.
+    pub fn new(alloc: A, start: N, successors: F) -> Result<DfsReachable<N, F, A>, PathError>
+        ensures ready { IfOk result (λ walk. walk.refused ≡ false) }
+        ensures graph { OfUnweightedGraph N.eq (start ∷ []) (F.answers successors) (λ next.
+            IfOk result (λ walk. IsDepthWalk N.eq F.answers next start [] walk)) }
+        ensures good { IsOk result }
+    {
+        Ok(DfsReachableBy::over(alloc, IndexSet::new(alloc), start, successors))
     }
 }
 
@@ -186,9 +210,10 @@ where
     DfsReachable::new(alloc, start, successors)
 }
 
-impl<N, F, A> DfsReachable<N, F, A>
+impl<N, M, F, A> DfsReachableBy<M, F, A>
 where
-    N: Eq + Hash,
+    N: Eq,
+    M: Numbering<Node = N>,
     F: SuccessorFunction<N>,
     A: Allocator,
 {
@@ -202,9 +227,10 @@ where
     }
 }
 
-impl<N, F, A> DfsReachable<N, F, A>
+impl<N, M, F, A> DfsReachableBy<M, F, A>
 where
-    N: Eq + Hash,
+    N: Eq,
+    M: Numbering<Node = N>,
     A: Allocator,
 {
     /// The number of nodes that were found (the start, and each successor of a given node) and not

@@ -9,7 +9,7 @@ ghost use Rattle.pf_search.specs.Internal.Begun.{HasBegun, OfBegun};
 pub use crate::directed::build_path::{Parents, build_path};
 pub use crate::directed::dijkstra_all::{dijkstra_all, dijkstra_partial};
 pub use crate::directed::dijkstra_reach::{
-    DijkstraReachable, DijkstraReachableItem, dijkstra_reach,
+    DijkstraReachable, DijkstraReachableBy, DijkstraReachableItem, dijkstra_reach,
 };
 use pf_base::{Cost, EdgeFunction, NodeTest, PathError, Tally};
 use pf_core::dijkstra::cheapest_path;

@@ -4,6 +4,7 @@ ghost use Rattle.std.specs.Prelude.{◌≡◌, ◌<◌, ◌+◌, [], ◌∷◌, 
 ghost use Rattle.std.specs.Iterator.{MakesProgress, at_most};
 ghost use Rattle.pf_base.specs.Answers.{IsLawfulClone};
 ghost use Rattle.pf_base.specs.Edges.{OfWeightedGraph};
+ghost use Rattle.pf_base.specs.NodeRefs.{HasSameNodes};
 ghost use Rattle.pf_core.specs.declared.labels.Label.{Label};
 ghost use Rattle.pf_core.specs.Labels.{HasLabel};
 ghost use Rattle.pf_core.specs.Nodes.{StandsFor};
@@ -15,7 +16,8 @@ use pf_base::{Cost, EdgeFunction, PathError};
 use pf_core::labels::label_of;
 use pf_core::search::Search;
 use pf_core::slot::Slot;
-use pf_discovery::discovery::{Discovery, clone_of};
+use pf_discovery::discovery::{DiscoveryBy, Nodes, clone_of};
+use pf_discovery::numbering::Numbering;
 use pf_discovery::source::Weighted;
 use std::alloc::{Allocator, Global};
 use std::hash::Hash;
@@ -61,37 +63,41 @@ where
     })
 }
 
-/// The nodes in reach of a start by rising cost, each as a `Result`: made by `dijkstra_reach`.
+/// The nodes in reach of a start by rising cost, each as a `Result`, with numbers by `M`.
 #[derive(Drop)]
-pub struct DijkstraReachable<N: Eq + Hash, C: Cost, F, A: Allocator = Global> {
-    discovery: Discovery<N, Weighted<F>, A>,
+pub struct DijkstraReachableBy<M: Numbering, C: Cost, F, A: Allocator> {
+    discovery: DiscoveryBy<M, Weighted<F>>,
     search: Search<C, A>,
     refused: bool,
 }
 
-impl<N: Eq + Hash, C: Cost, F, A: Allocator> Model for DijkstraReachable<N, C, F, A> {
+/// The nodes in reach of a start by rising cost, each as a `Result`: made by `dijkstra_reach`.
+pub type DijkstraReachable<N, C, F, A = Global> = DijkstraReachableBy<Nodes<N, A>, C, F, A>;
+
+impl<M: Numbering, C: Cost, F, A: Allocator> Model for DijkstraReachableBy<M, C, F, A> {
     ghost use Rattle.std.specs.Prelude.{◌≡◌, length};
     ghost use Rattle.pf_core.specs.Search.{IsSound};
     ghost use Rattle.pf_search.specs.CheapestFirst.{CheapestWalk, cheapest_walk_code};
     ghost use Rattle.pf_search.specs.Internal.CheapestSearch.{given_of, next_of};
 
-    ghost Value = { CheapestWalk N C F };
+    ghost Value = { CheapestWalk M.Node C F };
 
-    ghost coded = { cheapest_walk_code N.code C.code F.code };
+    ghost coded = { cheapest_walk_code M.Node.code C.code F.code };
 
     ghost view = { λ s. record {
-      given = given_of s.discovery.nodes.keys s.search.labels.items;
+      given = given_of (M.keys s.discovery.nodes) s.search.labels.items;
       refused = s.refused;
       successors = s.discovery.source.function;
-      search = record { nodes = s.discovery.nodes.keys; labels = s.search.labels.items; next = next_of s.search.labels.items s.search.queue.front };
+      search = record { nodes = M.keys s.discovery.nodes; labels = s.search.labels.items; next = next_of s.search.labels.items s.search.queue.front };
     } };
 
-    ghost invariant = { λ s. IsSound C.value s.search.labels.items s.search.queue.items × (length s.search.labels.items ≡ length s.discovery.nodes.keys) };
+    ghost invariant = { λ s. IsSound C.value s.search.labels.items s.search.queue.items × (length s.search.labels.items ≡ length (M.keys s.discovery.nodes)) };
 }
 
-impl<N, C, F, A> Iterator for DijkstraReachable<N, C, F, A>
+impl<N, M, C, F, A> Iterator for DijkstraReachableBy<M, C, F, A>
 where
-    N: Eq + Hash + Clone + Drop,
+    N: Eq + Clone + Drop,
+    M: Numbering<Node = N> + Drop,
     C: Cost,
     F: EdgeFunction<N, C>,
     A: Allocator + Copy,
@@ -108,10 +114,10 @@ where
     ghost remaining = { λ s. at_most (most_items (length s.given) s.refused) };
 
     fn next(&mut self) -> Option<Result<DijkstraReachableItem<N, C>, PathError>>
-        requires { ⟦<DijkstraReachable<N, C, F, A> as Iterator>⟧.can_next self.old }
-        ensures steps { ⟦<DijkstraReachable<N, C, F, A> as Iterator>⟧.next_gives self.old result self.new }
-        ensures goes { MakesProgress ⟦<DijkstraReachable<N, C, F, A> as Iterator>⟧.can_next ⟦<DijkstraReachable<N, C, F, A> as Iterator>⟧.remaining self.old result self.new }
-        ensures again { ⟦<DijkstraReachable<N, C, F, A> as Iterator>⟧.can_next self.new }
+        requires { ⟦<DijkstraReachableBy<M, C, F, A> as Iterator>⟧.can_next self.old }
+        ensures steps { ⟦<DijkstraReachableBy<M, C, F, A> as Iterator>⟧.next_gives self.old result self.new }
+        ensures goes { MakesProgress ⟦<DijkstraReachableBy<M, C, F, A> as Iterator>⟧.can_next ⟦<DijkstraReachableBy<M, C, F, A> as Iterator>⟧.remaining self.old result self.new }
+        ensures again { ⟦<DijkstraReachableBy<M, C, F, A> as Iterator>⟧.can_next self.new }
     {
         if self.refused {
             return None;
@@ -122,39 +128,42 @@ where
     }
 }
 
-impl<N, C, F, A> DijkstraReachable<N, C, F, A>
+impl<N, M, C, F, A> DijkstraReachableBy<M, C, F, A>
 where
-    N: Eq + Hash + Clone + Drop,
+    N: Eq + Clone + Drop,
+    M: Numbering<Node = N>,
     C: Cost,
     F: EdgeFunction<N, C>,
     A: Allocator + Copy,
 {
-    /// A walk as `dijkstra_reach` makes it, over any function of the trait: a closure, or a type of
-    /// the caller's own that implements it.
+    /// A walk as `dijkstra_reach` makes it, over any function of the trait, whose nodes are numbered by
+    /// any numbering that has the start and no other node.
     ///
     /// # Errors
     ///
     /// `OutOfMemory`: a request for memory was refused.
-    pub fn new(
+    pub fn over(
         alloc: A,
-        start: &N,
+        nodes: M,
         successors: F,
-    ) -> Result<DijkstraReachable<N, C, F, A>, PathError>
-        requires clones { IsLawfulClone N.eq N.is_clone }
+    ) -> Result<DijkstraReachableBy<M, C, F, A>, PathError>
+    where
+        M: Drop,
+        requires one { length (M.keys nodes) ≡ 1 }
         ensures begins { IfOk result (λ walk. (walk.given ≡ []) × (walk.refused ≡ false) × (walk.successors ≡ successors)) }
-        ensures graph { IfOk result (λ walk. OfWeightedGraph N.eq (start.now ∷ []) (F.answers successors) (λ edges.
-            IsCheapestWalk N.eq C.value edges start.now F.answers walk)) }
+        ensures graph { (start : N) → HasSameNodes N.eq (M.keys nodes) (start ∷ [])
+            → IfOk result (λ walk. OfWeightedGraph N.eq (start ∷ []) (F.answers successors) (λ edges.
+            IsCheapestWalk N.eq C.value edges start F.answers walk)) }
         ensures refused { IfErr result (λ e. e ≡ PathError.OutOfMemory) }
     {
-        let discovery = Discovery {
-            nodes: clone_of(alloc, start)?,
-            source: Weighted {
-                function: successors,
+        let search = Search::begin(alloc, nodes.len(), 0)?;
+        Ok(DijkstraReachableBy {
+            discovery: DiscoveryBy {
+                nodes,
+                source: Weighted {
+                    function: successors,
+                },
             },
-        };
-        let search = Search::begin(alloc, discovery.nodes.len(), 0)?;
-        Ok(DijkstraReachable {
-            discovery,
             search,
             refused: false,
         })
@@ -190,6 +199,35 @@ where
         let item = item_at(self.discovery.nodes.as_slice(), &self.search.labels, number)?;
         self.search.turn(&mut self.discovery, number)?;
         Ok(Some(item))
+    }
+}
+
+impl<N, C, F, A> DijkstraReachable<N, C, F, A>
+where
+    N: Eq + Hash + Clone + Drop,
+    C: Cost,
+    F: EdgeFunction<N, C>,
+    A: Allocator + Copy,
+{
+    /// A walk as `dijkstra_reach` makes it, over any function of the trait: a closure, or a type of
+    /// the caller's own that implements it.
+    ///
+    /// # Errors
+    ///
+    /// `OutOfMemory`: a request for memory was refused.
+    pub fn new(
+        alloc: A,
+        start: &N,
+        successors: F,
+    ) -> Result<DijkstraReachable<N, C, F, A>, PathError>
+        requires clones { IsLawfulClone N.eq N.is_clone }
+        ensures begins { IfOk result (λ walk. (walk.given ≡ []) × (walk.refused ≡ false) × (walk.successors ≡ successors)) }
+        ensures graph { IfOk result (λ walk. OfWeightedGraph N.eq (start.now ∷ []) (F.answers successors) (λ edges.
+            IsCheapestWalk N.eq C.value edges start.now F.answers walk)) }
+        ensures refused { IfErr result (λ e. e ≡ PathError.OutOfMemory) }
+    {
+        let nodes = clone_of(alloc, start)?;
+        DijkstraReachableBy::over(alloc, nodes, successors)
     }
 }
 

@@ -5,7 +5,7 @@ use Rattle.pf_table_searches.proofs.preorder.dfs_reach.Goals as goal
 pub returns-clause-graph : goal.returns-clause-graph
 returns-clause-graph g c =
     let next = successors_of g.C.Number.value (g.G.Graph.size c.args.graph.now) (g.G.Graph.places c.args.graph.now) in
-    c.in_ok-walk.ensures.graph next (ap (λ t. successors_of g.C.Number.value (g.G.Graph.size t) (g.G.Graph.places t)) (sym c.new.ensures))
+    c.over-walk.ensures.graph next (ap (λ t. successors_of g.C.Number.value (g.G.Graph.size t) (g.G.Graph.places t)) (sym c.new.ensures))
 
 pub invariant_of-result : goal.invariant_of-result
 invariant_of-result g c = ([], returns-clause-graph g c)
