@@ -4,6 +4,7 @@
 
 mod ranked;
 mod ranked_walks;
+mod walk;
 
 pub use crate::ranked::yen;
 pub use crate::ranked_walks::{YenPaths, yen_paths};

@@ -6,9 +6,10 @@ ghost use Rattle.pf_tables.specs.Graphs.{graph_of};
 ghost use Rattle.pf_yen.specs.CleanPaths.{PathOverflows};
 ghost use Rattle.pf_yen.specs.KCheapest.{IsKCheapest, paths_in};
 
+use crate::walk::walk_of;
 use pf_base::{Cost, PathError};
-use pf_table_functions::edges::edges_of;
 use pf_tables::{Goals, Graph};
+use pf_yen::directed::k_cheapest::k_cheapest_of;
 use std::alloc::Allocator;
 
 /// The `k` cheapest clean paths from the node `from` to goals, or all where there are fewer, each once,
@@ -27,6 +28,9 @@ use std::alloc::Allocator;
 ///   can hold; where `k` is 1, also only where a cheapest path to some node and one step more cost more
 ///   than `C` can hold and no goal is cheaper than that node.
 /// - `OutOfMemory`: a request for memory was refused.
+///
+/// The nodes that are found are numbered in a table of 32-bit numbers, one for each node of the graph, so
+/// that nothing is hashed.
 ///
 /// The algorithm is Yen's (J. Y. Yen, "Finding the k shortest loopless paths in a network", 1971), with
 /// Lawler's division (E. L. Lawler, 1972).
@@ -48,12 +52,6 @@ where
     ensures some_asked { result ≡ Err PathError.CostOverflow → 1 ≤ k }
     ensures errors { IfErr result (λ e. (e ≡ PathError.OutOfMemory) ⊎ (e ≡ PathError.CostOverflow)) }
 {
-    graph.known();
-    pf_yen::directed::yen::yen(
-        alloc,
-        &from,
-        |n: &usize| edges_of(graph, *n),
-        |n: &usize| goals.is_goal(*n),
-        k,
-    )
+    let walk = walk_of(alloc, graph, from, goals)?;
+    k_cheapest_of(alloc, walk, k)
 }

@@ -5,11 +5,9 @@ ghost use Rattle.std.specs.Iterator.{at_most};
 ghost use Rattle.pf_table_paths.specs.RankedWalks.{IsPathWalkInTable, PathStepInTable};
 ghost use Rattle.pf_yen.specs.Walk.{IsBarred, most_items};
 
+use crate::walk::{TableWalk, walk_of};
 use pf_base::{Cost, PathError};
-use pf_table_functions::goal_test::GoalTest;
-use pf_table_functions::neighbours::Neighbours;
 use pf_tables::{Goals, Graph};
-use pf_yen::directed::yen;
 use std::alloc::{Allocator, Global};
 use std::marker::Model;
 
@@ -20,7 +18,7 @@ pub struct YenPaths<'a, C: Cost, G: Graph<C>, T: Goals + Copy, A: Allocator = Gl
     graph: &'a G,
     start: usize,
     goals: T,
-    walk: yen::YenPaths<usize, C, Neighbours<'a, C, G>, GoalTest<T>, A>,
+    walk: TableWalk<'a, C, G, T, A>,
 }
 
 impl<'a, C: Cost, G: Graph<C>, T: Goals + Copy, A: Allocator> Model for YenPaths<'a, C, G, T, A> {
@@ -96,6 +94,9 @@ where
 /// same step again. A step that was refused with `CostOverflow` is refused with it again after each
 /// `resume`.
 ///
+/// The nodes that are found are numbered in a table of 32-bit numbers, one for each node of the graph, so
+/// that nothing is hashed.
+///
 /// The algorithm is Yen's (J. Y. Yen, "Finding the k shortest loopless paths in a network", 1971), with
 /// the classes of E. L. Lawler, "A procedure for computing the k best solutions", 1972.
 pub fn yen_paths<'a, C, G, T, A>(
@@ -113,8 +114,7 @@ where
     ensures graph { IfOk result (IsPathWalkInTable C.value G.size G.places T.passes C.fits) }
     ensures refused { IfErr result (λ e. e ≡ PathError.OutOfMemory) }
 {
-    graph.known();
-    let walk = yen::YenPaths::new(alloc, &from, Neighbours::new(graph), GoalTest::new(goals))?;
+    let walk = walk_of(alloc, graph, from, goals)?;
     Ok(YenPaths {
         graph,
         start: from,

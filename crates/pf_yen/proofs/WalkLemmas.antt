@@ -13,11 +13,13 @@ use Rattle.pf_core.specs.Steps.{GoesAlong, IsNonNegative, NumberedOverflows}
 use Rattle.pf_base.specs.Answers.{ListsEdges}
 use Rattle.pf_base.specs.Edges.{InReach, IsWeightedSearch}
 use Rattle.pf_base.specs.NodeRefs.{HasSameNodes}
+use Rattle.pf_base.specs.Walks.{HasNode}
 use Rattle.pf_core.specs.Nodes.{NodeGraph, StandsFor, IsStep, Explores}
 use Rattle.pf_discovery.specs.Sources.{AnswersEdges}
 use Rattle.pf_core.specs.NodeLaws.{StandsFor-one, StandsFor-inside}
 use Rattle.pf_base.proofs.ListLemmas.{bool_dec, Contains-cases, Contains-head}
 use Rattle.pf_discovery.proofs.SourceLemmas.{Explores-edges}
+use Rattle.pf_core.proofs.ReadLemmas.{same_one, stands_first}
 use Rattle.pf_core.proofs.WalkLemmas.{no_negative}
 use Rattle.pf_yen.specs.Internal.Adjacency.{AdjacencyLists, row_of, AdjacencyStep, is_goal}
 use Rattle.pf_yen.specs.Internal.WholeGraphs.{IsWhole}
@@ -136,6 +138,17 @@ items_refused s h = rw h refl
 -- the edges, from one start
 abbrev pub graph_of : {N : Type 0} → N → (N → List (N × ℤ)) → NodeGraph N
 graph_of start edges = record { starts = start ∷ []; edges = edges }
+
+-- one node alone was found, and the start is the same as it
+pub alone : {N : Type 0} {eq : N → N → Bool} → IsEquivalence eq → (keys : List N) (start : N) → length keys ≡ 1 → HasNode eq keys start
+    → IsDistinct eq keys × HasSameNodes eq keys (start ∷ []) × ((x : N) → StandsFor eq keys 0 x ↔ (eq start x ≡ true))
+unfolding IsDistinct
+alone laws [] start one has = absurd has
+alone {eq = eq} laws (k ∷ []) start one (inl e) =
+    let same = laws.symm start k ∙ e in
+    ((tt, tt), same_one eq laws [] (k ∷ []) start k same refl refl, stands_first eq laws [] (k ∷ []) start k same refl refl)
+alone laws (k ∷ []) start one (inr h) = absurd h
+alone laws (k ∷ l ∷ keys) start one has = cc
 
 -- a walk that was just made
 pub new_walk : {N C F T : Type 0} {eq : N → N → Bool} {value : C → ℤ} {edges : N → List (N × ℤ)} {start : N} {test : N → Bool} {fits : ℤ → Type 0} {edge_answers : F → (N → Type 0) → (N → List (N × ℤ)) → Type 0} {test_answers : T → (N → Type 0) → (N → Bool) → Type 0} → IsEquivalence eq → (s : PathWalk N C F T)

@@ -1,4 +1,4 @@
 //! Directed graphs.
 
-mod k_cheapest;
+pub mod k_cheapest;
 pub mod yen;

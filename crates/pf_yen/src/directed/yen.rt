@@ -4,6 +4,7 @@ ghost use Rattle.std.specs.Prelude.{◌≡◌, ◌≤◌, ◌<◌, ◌^◌, true
 ghost use Rattle.std.specs.Iterator.{MakesProgress, at_most};
 ghost use Rattle.pf_base.specs.Answers.{IsLawfulClone};
 ghost use Rattle.pf_base.specs.Edges.{OfWeightedSearch};
+ghost use Rattle.pf_base.specs.Walks.{HasNode};
 ghost use Rattle.pf_yen.specs.CleanPaths.{RefusedFor};
 ghost use Rattle.pf_yen.specs.Walk.{IsPathWalk, IsSomePathWalk, OfPathWalk, most_items, IsEnded, IsBarred, PathStep, StepKeepsBar};
 ghost use Rattle.pf_yen.specs.Internal.PathTurns.{PathTurn};
@@ -15,55 +16,67 @@ use crate::explore::explore;
 use crate::given::Given;
 use crate::standing::Standing;
 use pf_base::{Cost, EdgeFunction, NodeTest, PathError};
-use pf_discovery::discovery::{Discovery, clone_of};
+use pf_discovery::discovery::{DiscoveryBy, Nodes, clone_of};
+use pf_discovery::numbering::Numbering;
 use pf_discovery::source::Weighted;
-use pf_discovery::tested::Tested;
+use pf_discovery::tested::TestedBy;
 use std::alloc::{Allocator, Global};
 use std::collections::BinaryHeap;
 use std::hash::Hash;
 use std::marker::Model;
 
-/// The clean paths by rising cost, each as a `Result`: made by `yen_paths`. A step that was refused
-/// with `CostOverflow` is refused with it again after each `resume`.
+/// The clean paths by rising cost, each as a `Result`, over nodes with numbers by `M`. A step that was
+/// refused with `CostOverflow` is refused with it again after each `resume`.
 ///
 /// The paths that branch off a path are looked for when the path after it is asked for, and not before.
 #[derive(Drop)]
-pub struct YenPaths<N: Eq + Hash + Drop, C: Cost, F, T, A: Allocator = Global> {
-    graph: Tested<N, Weighted<F>, T, A>,
+pub struct YenPathsBy<M: Numbering, C: Cost, F, T, A: Allocator>
+where
+    M::Node: Drop,
+{
+    graph: TestedBy<M, Weighted<F>, T>,
     adjacency: Adjacency<C, A>,
     plans: Candidates<C, A>,
-    given: Given<N, C, A>,
+    given: Given<M::Node, C, A>,
     standing: Standing,
     alloc: A,
 }
 
-impl<N: Eq + Hash + Drop, C: Cost, F, T, A: Allocator> Model for YenPaths<N, C, F, T, A> {
+/// The clean paths by rising cost, each as a `Result`: made by `yen_paths`. Nodes are numbered by their
+/// hashes.
+pub type YenPaths<N, C, F, T, A = Global> = YenPathsBy<Nodes<N, A>, C, F, T, A>;
+
+impl<M: Numbering, C: Cost, F, T, A: Allocator> Model for YenPathsBy<M, C, F, T, A>
+where
+    M::Node: Drop,
+{
     ghost use Rattle.std.specs.BinaryHeap.{IsHeap, heap_items};
     ghost use Rattle.pf_yen.specs.Internal.PathPlans.{has_ended, path_plans};
     ghost use Rattle.pf_yen.specs.Internal.PlanChanges.{first_cmp};
     ghost use Rattle.pf_yen.specs.Internal.Standing.{is_barred, was_refused};
     ghost use Rattle.pf_yen.specs.Walk.{PathWalk, path_walk_code};
 
-    ghost Value = { PathWalk N C F T };
+    ghost Value = { PathWalk M.Node C F T };
 
-    ghost coded = { path_walk_code N.code C.code F.code T.code };
+    ghost coded = { path_walk_code M.Node.code C.code F.code T.code };
 
     ghost view = { λ s. record {
       given = s.given;
       refused = was_refused s.standing;
       barred = is_barred s.standing;
-      ended = has_ended (path_plans s.graph.discovery.nodes.keys s.adjacency s.plans);
+      ended = has_ended (path_plans (M.keys s.graph.discovery.nodes) s.adjacency s.plans);
       successors = s.graph.discovery.source.function;
       success = s.graph.success;
-      plans = path_plans s.graph.discovery.nodes.keys s.adjacency s.plans;
+      plans = path_plans (M.keys s.graph.discovery.nodes) s.adjacency s.plans;
     } };
 
     ghost invariant = { λ s. IsHeap (first_cmp C.cmp) (heap_items s.plans.waiting) };
 }
 
-impl<N, C, F, T, A> Iterator for YenPaths<N, C, F, T, A>
+impl<N, M, C, F, T, A> Iterator for YenPathsBy<M, C, F, T, A>
 where
-    N: Eq + Hash + Clone + Drop,
+    N: Eq + Clone + Drop,
+    M: Numbering<Node = N> + Drop,
     C: Cost,
     F: EdgeFunction<N, C>,
     T: NodeTest<N>,
@@ -79,10 +92,10 @@ where
         IsPathWalk N.eq C.value edges start test C.fits F.answers T.answers t × PathStep N.eq C.value edges start test C.fits s r t × StepKeepsBar s r t) };
 
     fn next(&mut self) -> Option<Result<(Vec<N, A>, C), PathError>>
-        requires { ⟦<YenPaths<N, C, F, T, A> as Iterator>⟧.can_next self.old }
-        ensures steps { ⟦<YenPaths<N, C, F, T, A> as Iterator>⟧.next_gives self.old result self.new }
-        ensures goes { MakesProgress ⟦<YenPaths<N, C, F, T, A> as Iterator>⟧.can_next ⟦<YenPaths<N, C, F, T, A> as Iterator>⟧.remaining self.old result self.new }
-        ensures again { ⟦<YenPaths<N, C, F, T, A> as Iterator>⟧.can_next self.new }
+        requires { ⟦<YenPathsBy<M, C, F, T, A> as Iterator>⟧.can_next self.old }
+        ensures steps { ⟦<YenPathsBy<M, C, F, T, A> as Iterator>⟧.next_gives self.old result self.new }
+        ensures goes { MakesProgress ⟦<YenPathsBy<M, C, F, T, A> as Iterator>⟧.can_next ⟦<YenPathsBy<M, C, F, T, A> as Iterator>⟧.remaining self.old result self.new }
+        ensures again { ⟦<YenPathsBy<M, C, F, T, A> as Iterator>⟧.can_next self.new }
     {
         if self.standing.was_refused() {
             return None;
@@ -119,14 +132,36 @@ where
             IsPathWalk N.eq C.value edges start.now test C.fits F.answers T.answers walk)) }
         ensures refused { IfErr result (λ e. e ≡ PathError.OutOfMemory) }
     {
-        let discovery = Discovery {
-            nodes: clone_of(alloc, start)?,
+        let nodes = clone_of(alloc, start)?;
+        Ok(YenPathsBy::over(alloc, nodes, successors, success))
+    }
+}
+
+impl<N, M, C, F, T, A> YenPathsBy<M, C, F, T, A>
+where
+    N: Eq + Clone + Drop,
+    M: Numbering<Node = N> + Drop,
+    C: Cost,
+    F: EdgeFunction<N, C>,
+    T: NodeTest<N>,
+    A: Allocator + Copy,
+{
+    /// A walk as `yen_paths` makes it, whatever numbers the nodes: `nodes` has the start alone. This
+    /// takes no memory, and no node is hashed unless `nodes` does so.
+    pub fn over(alloc: A, nodes: M, successors: F, success: T) -> Self
+        requires one { length (M.keys nodes) ≡ 1 }
+        ensures begins { (result.given ≡ []) × (result.refused ≡ false) × ¬ (IsBarred result) × (result.successors ≡ successors) × (result.success ≡ success) }
+        ensures graph { (start : N) → HasNode N.eq (M.keys nodes) start → OfWeightedSearch N.eq (start ∷ []) (F.answers successors) (T.answers success) (λ edges test.
+            IsPathWalk N.eq C.value edges start test C.fits F.answers T.answers result) }
+    {
+        let discovery = DiscoveryBy {
+            nodes,
             source: Weighted {
                 function: successors,
             },
         };
-        Ok(YenPaths {
-            graph: Tested { discovery, success },
+        YenPathsBy {
+            graph: TestedBy { discovery, success },
             adjacency: Adjacency::new(alloc),
             plans: Candidates {
                 waiting: BinaryHeap::new(alloc),
@@ -137,7 +172,7 @@ where
             given: Given::nothing(),
             standing: Standing::GoesOn,
             alloc,
-        })
+        }
     }
 
     /// Lets the next call of `next` try again the step that was refused. Where no step was refused

@@ -1,29 +1,24 @@
-use Rattle.std.proofs.Common.{rules, ap, ◌∷◌, []}
-use Rattle.std.proofs.lemmas.Iterator.Consumers.{YieldsList-from_first}
-use Rattle.pf_base.proofs.Callers.{nat_test}
-use Rattle.pf_base.proofs.Sources.{gives_chain}
-use Rattle.pf_tables.specs.Graphs.{graph_of}
-use Rattle.pf_tables.proofs.GraphLemmas.{no_negative_cost}
-use Rattle.pf_table_functions.proofs.EdgeLemmas.{table_graph}
+use Rattle.std.proofs.Common.{inl}
+use Rattle.std.proofs.lemmas.Result.{IfOk-from_err}
+use Rattle.pf_base.proofs.Outcomes.{no_overflow, refused_as}
 use Rattle.pf_table_paths.proofs.ranked.yen.Goals as goal
 
-pub yen-requires-clause-graph : goal.yen-requires-clause-graph
-yen-requires-clause-graph g c =
-    let size = g.G.Graph.size c.args.graph.now in
-    let places = g.G.Graph.places c.args.graph.now in (
-      graph_of g.C.Number.value size places,
-      g.T.Goals.passes c.args.goals,
-      record {
-        edges_answered = table_graph g.C.Number.value size places (λ x w. tt)
-            (λ x r t w k. (ap (λ (q : _). (q, record {})) k.met.1, gives_chain (λ it b. (tt, tt, YieldsList-from_first (λ e. e) (λ es. es) _ (search rules)))));
-        test_answered = nat_test (g.T.Goals.passes c.args.goals) (λ x w. tt) (λ x r t w k. (ap (λ (q : _). record { 0 = q }) k.met.1, search rules));
-        costs = no_negative_cost g.C.Number.value size places c.known.ensures (c.args.from ∷ []);
-      },
-    )
+pub k_cheapest_of-requires-clause-graph : goal.k_cheapest_of-requires-clause-graph
+k_cheapest_of-requires-clause-graph g c = (_, _, _, c.in_ok-walk.ensures.graph)
+
+pub returns-in_err-walk : goal.returns-in_err-walk
+returns-in_err-walk g c =
+    let over = no_overflow c.from_residual.result c.in_err-walk.field-0.0 c.from_residual.ensures.1 c.in_err-walk.ensures.refused in
+    record {
+      cheapest = IfOk-from_err _ _ c.from_residual.ensures.0;
+      overflow = λ e. absurd (over e);
+      first_overflow = λ e _. absurd (over e);
+      some_asked = λ e. absurd (over e);
+      errors = refused_as _ c.from_residual.result c.in_err-walk.field-0.0 c.from_residual.ensures.1 (inl c.in_err-walk.ensures.refused);
+    }
 
 pub returns : goal.returns
-unfolding yen-requires-clause-graph
 returns g c =
-    let p = yen-requires-clause-graph g c.before in
-    let e = c.yen.ensures in
-    record { cheapest = e.cheapest p.0 p.1 p.2; overflow = e.overflow p.0 p.1 p.2; first_overflow = e.first_overflow p.0 p.1 p.2; some_asked = e.some_asked; errors = e.errors }
+    let e = c.k_cheapest_of.ensures in
+    let w = c.in_ok-walk.ensures.graph in
+    record { cheapest = e.cheapest _ _ _ w; overflow = e.overflow _ _ _ w; first_overflow = e.first_overflow _ _ _ w; some_asked = e.some_asked; errors = e.errors }

@@ -2,7 +2,7 @@ use Rattle.std.specs.BinaryHeap.{heap_items}
 use Rattle.pf_yen.specs.Internal.Candidates.{waiting_plans, chosen_plan}
 use Rattle.pf_yen.specs.Internal.Classes.{plan_of}
 use Rattle.pf_yen.proofs.WalkLemmas.{whole, some_listed, some_partition, fresh_plans, map_none, chose, still_ended, still_open, refused_for}
-use Rattle.pf_yen.proofs.directed.yen.YenPaths.choose.Goals as goal
+use Rattle.pf_yen.proofs.directed.yen.YenPathsBy.choose.Goals as goal
 
 pub choose-requires-clause-whole : goal.choose-requires-clause-whole
 choose-requires-clause-whole g c =

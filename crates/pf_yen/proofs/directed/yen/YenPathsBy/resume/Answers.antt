@@ -1,6 +1,6 @@
 use Rattle.std.proofs.Common.{false}
 use Rattle.pf_yen.proofs.WalkLemmas.{marked}
-use Rattle.pf_yen.proofs.directed.yen.YenPaths.resume.Goals as goal
+use Rattle.pf_yen.proofs.directed.yen.YenPathsBy.resume.Goals as goal
 
 pub returns-clause-graph : goal.returns-clause-graph
 returns-clause-graph g c = λ edges start test w.

@@ -1,6 +1,6 @@
 use Rattle.std.proofs.Common.{◌∙◌, refl, sym, inl, true≢false}
 use Rattle.pf_yen.proofs.WalkLemmas.{turn_refused, turn_same}
-use Rattle.pf_yen.proofs.directed.yen.YenPaths.step.Goals as goal
+use Rattle.pf_yen.proofs.directed.yen.YenPathsBy.step.Goals as goal
 
 pub returns-then-is_barred-clause-steps : goal.returns-then-is_barred-clause-steps
 returns-then-is_barred-clause-steps g c = λ edges start test w.

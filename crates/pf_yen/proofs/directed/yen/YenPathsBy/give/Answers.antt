@@ -5,7 +5,7 @@ use Rattle.pf_yen.specs.Internal.Candidates.{chosen_plan}
 use Rattle.pf_yen.specs.Internal.PathPlans.{path_plans}
 use Rattle.pf_yen.specs.Walk.{IsEnded}
 use Rattle.pf_yen.proofs.WalkLemmas.{ended_by, none_left, path_inside, gives, turn_refused, not_ended_chosen}
-use Rattle.pf_yen.proofs.directed.yen.YenPaths.give.Goals as goal
+use Rattle.pf_yen.proofs.directed.yen.YenPathsBy.give.Goals as goal
 
 pub returns-in_default-clause-steps : goal.returns-in_default-clause-steps
 returns-in_default-clause-steps g c = λ edges start test w.
@@ -42,7 +42,7 @@ pub returns-in_err-path : goal.returns-in_err-path
 returns-in_err-path g c =
     let e : c.self.inside.plans.chosen ≡ Some c.in-Some.chosen = c.in-Some.is in
     let f = ap (λ (o : Option (Candidate g.row.C.Denot g.row.A.Denot)). chosen_plan o) e in
-    let more : ¬ (IsEnded c.args.self.now) = rw (← c.self.view_is) (not_ended_chosen (path_plans c.self.inside.graph.discovery.nodes.keys c.self.inside.adjacency c.self.inside.plans) (plan_of c.in-Some.chosen) f) in
+    let more : ¬ (IsEnded c.args.self.now) = rw (← c.self.view_is) (not_ended_chosen (path_plans (g.M.Numbering.keys c.self.inside.graph.discovery.nodes) c.self.inside.adjacency c.self.inside.plans) (plan_of c.in-Some.chosen) f) in
     record {
       steps = λ edges start test w. (w, turn_refused w c.args.self.now c.from_residual.result c.in_err-path.field-0.0 c.from_residual.ensures.1 (inl c.in_err-path.ensures.refused) refl more more);
       same = refl;

@@ -1,6 +1,6 @@
 use Rattle.std.proofs.Common.{◌≡◌, ◌∙◌, sym, false}
 use Rattle.pf_yen.proofs.WalkLemmas.{step_of, bars_of, progress}
-use Rattle.pf_yen.proofs.directed.yen.YenPathsIterator.next.Goals as goal
+use Rattle.pf_yen.proofs.directed.yen.YenPathsByIterator.next.Goals as goal
 
 pub returns-clause-steps : goal.returns-clause-steps
 returns-clause-steps g c = λ edges start test w.
