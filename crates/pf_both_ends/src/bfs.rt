@@ -2,48 +2,17 @@
 
 ghost use Rattle.std.specs.Prelude.{◌≡◌, List, IfOk, IfErr};
 ghost use Rattle.pf_base.specs.Successors.{IsFewestEdgesOrNone};
-ghost use Rattle.pf_base.specs.Mirrors.{is_among, IsMirror, AnswersSearchFromBothEnds, OfSearchFromBothEnds};
+ghost use Rattle.pf_base.specs.Mirrors.{is_among, AnswersSearchFromBothEnds, OfSearchFromBothEnds};
 ghost use Rattle.pf_base.specs.Answers.{IsLawfulClone};
-ghost use Rattle.pf_discovery.specs.ExploredHops.{ExploresHops};
-ghost use Rattle.pf_base.specs.NodeRefs.{HasSameNodes};
 
+use crate::discovered::fewest_edges_path;
 use pf_base::{PathError, SuccessorFunction};
 use pf_discovery::discovery::{Discovery, clones_of};
-use pf_discovery::source::{EdgeSource, Unweighted};
-use pf_two_sided::bidirectional::fewest_edges_between;
+use pf_discovery::source::Unweighted;
 use pf_two_sided::two_sided::TwoSided;
 use pf_utils::NodeRefs;
 use std::alloc::Allocator;
 use std::hash::Hash;
-
-/// A path with fewest edges from a node that was found on the way forth to one that was found on the
-/// way back.
-fn path_between<N, S, P, A>(
-    alloc: A,
-    graph: &mut TwoSided<N, S, P, A>,
-) -> Result<Option<Vec<N, A>>, PathError>
-where
-    N: Eq + Hash + Clone + Drop,
-    S: EdgeSource<N, u8>,
-    P: EdgeSource<N, u8>,
-    A: Allocator + Copy,
-    requires clones { IsLawfulClone N.eq N.is_clone }
-    requires graph { (next previous : N → List N) × (starts ends : List N)
-        × ExploresHops N.eq S.answers starts next graph.old.forth × ExploresHops N.eq P.answers ends previous graph.old.back }
-
-    ensures best { (next previous : N → List N) (starts ends : List N)
-        → ExploresHops N.eq S.answers starts next graph.old.forth → ExploresHops N.eq P.answers ends previous graph.old.back
-        → HasSameNodes N.eq graph.old.forth.nodes.keys starts → HasSameNodes N.eq graph.old.back.nodes.keys ends
-        → IsMirror N.eq next previous starts ends
-        → IfOk result (IsFewestEdgesOrNone N.eq next starts (is_among N.eq ends)) }
-
-    ensures errors { IfErr result (λ e. e ≡ PathError.OutOfMemory) }
-{
-    match fewest_edges_between::<u8, _, _>(alloc, graph)? {
-        None => Ok(None),
-        Some(halves) => graph.nodes_along(alloc, &halves).map(Some),
-    }
-}
 
 /// A path with fewest edges from one of the `starts` to one of the `ends`, or `None` exactly where no
 /// walk leads from a start to an end.
@@ -101,5 +70,5 @@ where
             function: predecessors,
         },
     };
-    path_between(alloc, &mut TwoSided { forth, back })
+    fewest_edges_path(alloc, &mut TwoSided { forth, back })
 }

@@ -10,10 +10,12 @@ ghost use Rattle.pf_core.specs.Nodes.{StandsFor};
 ghost use Rattle.pf_both_ends.specs.BothEnds.{AnswersWeightedSearchFromBothEnds, OfWeightedSearchFromBothEnds};
 ghost use Rattle.pf_both_ends.specs.Internal.BothEnds.{AreNumberedOnce, bound, TellsAtMost, IsMeetingOn, NoneBelowOn, NoMeetingAmong, IsFirstMeeting, AreSoundOn, AreHalvesOn, IsPairOn, AnswersPair, OfPair, AnswersEnds, OfEnds, NoWalkAcross, NoWalkAcrossBelow};
 
+use crate::discovered::cheapest_path;
 use pf_base::{Cost, EdgeFunction, PathError};
 use pf_core::labels::{label_of, path_to};
 use pf_core::search::Search;
-use pf_discovery::discovery::{Discovery, Nodes, clone_of};
+use pf_discovery::discovery::{Discovery, clone_of};
+use pf_discovery::numbering::Numbering;
 use pf_discovery::source::{EdgeSource, Weighted};
 use pf_two_sided::bidirectional::Halves;
 use pf_two_sided::two_sided::TwoSided;
@@ -31,26 +33,27 @@ struct Meeting<C> {
 
 /// The meeting at a node of one side, if the other side has a label for it and the two costs have a
 /// sum.
-fn meeting_at<N, C, A>(
-    nodes: &Nodes<N, A>,
+fn meeting_at<N, M, C, A>(
+    nodes: &M,
     search: &Search<C, A>,
-    other_nodes: &Nodes<N, A>,
+    other_nodes: &M,
     other_search: &Search<C, A>,
     number: usize,
 ) -> Option<Meeting<C>>
 where
-    N: Eq + Hash,
+    N: Eq,
+    M: Numbering<Node = N>,
     C: Cost,
     A: Allocator,
-    requires inside { number < length nodes.now.keys }
+    requires inside { number < length (M.keys nodes.now) }
     requires labelled { (l : Label C) × HasLabel search.now.labels.items number l }
-    requires wide { length other_search.now.labels.items ≡ length other_nodes.now.keys }
-    requires one { AreNumberedOnce N.eq other_nodes.now.keys }
-    ensures meets { IfSome result (λ m. (m.here ≡ number) × IsMeetingOn N.eq C.value nodes.now.keys other_nodes.now.keys search.now other_search.now m) }
-    ensures low { NoneBelowOn N.eq C.value nodes.now.keys other_nodes.now.keys search.now other_search.now (bound C.value (C.value C.greatest) result) number }
+    requires wide { length other_search.now.labels.items ≡ length (M.keys other_nodes.now) }
+    requires one { AreNumberedOnce N.eq (M.keys other_nodes.now) }
+    ensures meets { IfSome result (λ m. (m.here ≡ number) × IsMeetingOn N.eq C.value (M.keys nodes.now) (M.keys other_nodes.now) search.now other_search.now m) }
+    ensures low { NoneBelowOn N.eq C.value (M.keys nodes.now) (M.keys other_nodes.now) search.now other_search.now (bound C.value (C.value C.greatest) result) number }
 {
     let found = nodes.as_slice();
-    let Some(across) = other_nodes.get_index_of(&found[number]) else {
+    let Some(across) = other_nodes.get_number_of(&found[number]) else {
         return None;
     };
     let Some(there) = other_search.labels[across].label() else {
@@ -149,23 +152,24 @@ fn waits_for_no_more<C: Cost, A: Allocator>(search: &Search<C, A>, other: &Searc
 ///
 /// Where the way back finds a sum that does not fit, it goes no further: the walk that costs too much
 /// ends at the end, but it need not begin at the start. The way forth goes on alone.
-fn best_meeting<N, C, S, P, A>(
-    graph: &mut TwoSided<N, S, P, A>,
+fn best_meeting<N, M, C, S, P, A>(
+    graph: &mut TwoSided<M, S, P>,
     forth: &mut Search<C, A>,
     back: &mut Search<C, A>,
 ) -> Result<Option<Meeting<C>>, PathError>
 where
-    N: Eq + Hash + Drop,
+    N: Eq + Drop,
+    M: Numbering<Node = N>,
     C: Cost,
     S: EdgeSource<N, C>,
     P: EdgeSource<N, C>,
     A: Allocator + Copy,
-    requires sound { AreSoundOn C.value graph.old forth.old back.old }
-    requires pair { AnswersPair N.eq S.answers P.answers graph.old C.value C.fits forth.old back.old (C.value C.greatest +ℤ pos 1) }
-    ensures sound { OnOk result (AreSoundOn C.value graph.new forth.new back.new) }
-    ensures best { OfPair N.eq S.answers P.answers graph.old C.value C.fits forth.old back.old (C.value C.greatest +ℤ pos 1) (λ edges previous start end.
-        IfOk result (λ answer. IsPairOn N.eq C.value C.fits edges previous start end graph.new forth.new back.new (bound C.value (C.value C.greatest) answer)
-        × IfSome answer (IsMeetingOn N.eq C.value graph.new.forth.nodes.keys graph.new.back.nodes.keys forth.new back.new)
+    requires sound { AreSoundOn M.keys C.value graph.old forth.old back.old }
+    requires pair { AnswersPair N.eq M.keys S.answers P.answers graph.old C.value C.fits forth.old back.old (C.value C.greatest +ℤ pos 1) }
+    ensures sound { OnOk result (AreSoundOn M.keys C.value graph.new forth.new back.new) }
+    ensures best { OfPair N.eq M.keys S.answers P.answers graph.old C.value C.fits forth.old back.old (C.value C.greatest +ℤ pos 1) (λ edges previous start end.
+        IfOk result (λ answer. IsPairOn M.keys N.eq C.value C.fits edges previous start end graph.new forth.new back.new (bound C.value (C.value C.greatest) answer)
+        × IfSome answer (IsMeetingOn N.eq C.value (M.keys graph.new.forth.nodes) (M.keys graph.new.back.nodes) forth.new back.new)
         × MatchOption answer (NoWalkAcross N.eq C.value edges start end) (λ m. NoWalkAcrossBelow N.eq C.value edges start end (C.value m.cost)))
         × (result ≡ Err PathError.CostOverflow → CostOverflows N.eq edges (start ∷ []) (N.eq end) C.fits)) }
     ensures errors { IfErr result (λ e. (e ≡ PathError.OutOfMemory) ⊎ (e ≡ PathError.CostOverflow)) }
@@ -207,24 +211,25 @@ where
 
 /// The first node of the half on the way forth at which both sides meet at no more than this cost, with
 /// its place in the half.
-fn first_on<N, C, A>(
-    nodes: &Nodes<N, A>,
+fn first_on<N, M, C, A>(
+    nodes: &M,
     search: &Search<C, A>,
-    other_nodes: &Nodes<N, A>,
+    other_nodes: &M,
     other_search: &Search<C, A>,
     numbers: &[usize],
     cost: C,
 ) -> Option<(usize, Meeting<C>)>
 where
-    N: Eq + Hash,
+    N: Eq,
+    M: Numbering<Node = N>,
     C: Cost,
     A: Allocator,
-    requires inside { (k : ℕ) → Contains numbers.now k → k < length nodes.now.keys }
+    requires inside { (k : ℕ) → Contains numbers.now k → k < length (M.keys nodes.now) }
     requires labelled { (k : ℕ) → Contains numbers.now k → (l : Label C) × HasLabel search.now.labels.items k l }
-    requires wide { length other_search.now.labels.items ≡ length other_nodes.now.keys }
-    requires one { AreNumberedOnce N.eq other_nodes.now.keys }
-    ensures first { MatchOption result (NoMeetingAmong N.eq C.value nodes.now.keys other_nodes.now.keys search.now other_search.now (C.value cost) numbers.now)
-        (IsFirstMeeting N.eq C.value nodes.now.keys other_nodes.now.keys search.now other_search.now (C.value cost) numbers.now) }
+    requires wide { length other_search.now.labels.items ≡ length (M.keys other_nodes.now) }
+    requires one { AreNumberedOnce N.eq (M.keys other_nodes.now) }
+    ensures first { MatchOption result (NoMeetingAmong N.eq C.value (M.keys nodes.now) (M.keys other_nodes.now) search.now other_search.now (C.value cost) numbers.now)
+        (IsFirstMeeting N.eq C.value (M.keys nodes.now) (M.keys other_nodes.now) search.now other_search.now (C.value cost) numbers.now) }
 {
     cost.known();
     'numbers: for (place, number) in numbers.iter().enumerate() {
@@ -240,28 +245,29 @@ where
 /// The nodes of a path that costs no more than this meeting. Its two halves meet at the first node on
 /// the way forth at which they can, since that node alone is on both: where edges cost nothing, the
 /// halves that meet at another node may have several nodes in common.
-fn path_through<N, C, S, P, A>(
+fn path_through<N, M, C, S, P, A>(
     alloc: A,
-    graph: &TwoSided<N, S, P, A>,
+    graph: &TwoSided<M, S, P>,
     forth: &Search<C, A>,
     back: &Search<C, A>,
     best: Meeting<C>,
 ) -> Result<Vec<N, A>, PathError>
 where
-    N: Eq + Hash + Clone + Drop,
+    N: Eq + Clone + Drop,
+    M: Numbering<Node = N>,
     C: Cost,
     A: Allocator + Copy,
     requires clones { IsLawfulClone N.eq N.is_clone }
     requires trees { IsTree forth.now.labels.items × IsTree back.now.labels.items }
-    requires wide_forth { length forth.now.labels.items ≡ length graph.now.forth.nodes.keys }
-    requires wide_back { length back.now.labels.items ≡ length graph.now.back.nodes.keys }
-    requires one { AreNumberedOnce N.eq graph.now.back.nodes.keys }
+    requires wide_forth { length forth.now.labels.items ≡ length (M.keys graph.now.forth.nodes) }
+    requires wide_back { length back.now.labels.items ≡ length (M.keys graph.now.back.nodes) }
+    requires one { AreNumberedOnce N.eq (M.keys graph.now.back.nodes) }
     requires costs { (k : ℕ) (l : Label C) → HasLabel forth.now.labels.items k l ⊎ HasLabel back.now.labels.items k l → pos 0 ≤ℤ C.value l.cost }
-    requires meets { IsMeetingOn N.eq C.value graph.now.forth.nodes.keys graph.now.back.nodes.keys forth.now back.now best }
+    requires meets { IsMeetingOn N.eq C.value (M.keys graph.now.forth.nodes) (M.keys graph.now.back.nodes) forth.now back.now best }
     ensures path { IfOk result (λ path. (numbers back_numbers : List ℕ) × (p q : List N)
-        × AreHalvesOn N.eq C.value graph.now forth.now back.now (C.value best.cost) numbers back_numbers
-        × AllZip (StandsFor N.eq graph.now.forth.nodes.keys) numbers p
-        × AllZip (StandsFor N.eq graph.now.back.nodes.keys) back_numbers q
+        × AreHalvesOn M.keys N.eq C.value graph.now forth.now back.now (C.value best.cost) numbers back_numbers
+        × AllZip (StandsFor N.eq (M.keys graph.now.forth.nodes)) numbers p
+        × AllZip (StandsFor N.eq (M.keys graph.now.back.nodes)) back_numbers q
         × (path.items ≡ p ++ drop 1 (reverse q))) }
     ensures refused { IfErr result (λ e. e ≡ PathError.OutOfMemory) }
 {
@@ -288,22 +294,23 @@ where
 
 /// The path through the best meeting of two searches, `forth` from the start and `back` from the end,
 /// with its cost.
-fn path_across<N, C, S, P, A>(
+pub fn path_across<N, M, C, S, P, A>(
     alloc: A,
-    graph: &mut TwoSided<N, S, P, A>,
+    graph: &mut TwoSided<M, S, P>,
     forth: &mut Search<C, A>,
     back: &mut Search<C, A>,
 ) -> Result<Option<(Vec<N, A>, C)>, PathError>
 where
-    N: Eq + Hash + Clone + Drop,
+    N: Eq + Clone + Drop,
+    M: Numbering<Node = N>,
     C: Cost,
     S: EdgeSource<N, C>,
     P: EdgeSource<N, C>,
     A: Allocator + Copy,
     requires clones { IsLawfulClone N.eq N.is_clone }
-    requires sound { AreSoundOn C.value graph.old forth.old back.old }
-    requires pair { AnswersPair N.eq S.answers P.answers graph.old C.value C.fits forth.old back.old (C.value C.greatest +ℤ pos 1) }
-    ensures best { OfPair N.eq S.answers P.answers graph.old C.value C.fits forth.old back.old (C.value C.greatest +ℤ pos 1) (λ edges previous start end.
+    requires sound { AreSoundOn M.keys C.value graph.old forth.old back.old }
+    requires pair { AnswersPair N.eq M.keys S.answers P.answers graph.old C.value C.fits forth.old back.old (C.value C.greatest +ℤ pos 1) }
+    ensures best { OfPair N.eq M.keys S.answers P.answers graph.old C.value C.fits forth.old back.old (C.value C.greatest +ℤ pos 1) (λ edges previous start end.
         IfOk result (IsCheapestOrNone N.eq edges (start ∷ []) (N.eq end) C.value)
         × (result ≡ Err PathError.CostOverflow → CostOverflows N.eq edges (start ∷ []) (N.eq end) C.fits)) }
     ensures errors { IfErr result (λ e. (e ≡ PathError.OutOfMemory) ⊎ (e ≡ PathError.CostOverflow)) }
@@ -315,32 +322,6 @@ where
             Ok(Some((path, meeting.cost)))
         }
     }
-}
-
-/// A cheapest path from the only node that was found on the way forth to the only one that was found
-/// on the way back, with its cost.
-fn path_between<N, C, S, P, A>(
-    alloc: A,
-    graph: &mut TwoSided<N, S, P, A>,
-) -> Result<Option<(Vec<N, A>, C)>, PathError>
-where
-    N: Eq + Hash + Clone + Drop,
-    C: Cost,
-    S: EdgeSource<N, C>,
-    P: EdgeSource<N, C>,
-    A: Allocator + Copy,
-    requires clones { IsLawfulClone N.eq N.is_clone }
-    requires one_forth { length graph.old.forth.nodes.keys ≡ 1 }
-    requires one_back { length graph.old.back.nodes.keys ≡ 1 }
-    requires ends { AnswersEnds N.eq S.answers P.answers graph.old }
-    ensures best { OfEnds N.eq S.answers P.answers graph.old (λ edges previous start end.
-        IfOk result (IsCheapestOrNone N.eq edges (start ∷ []) (N.eq end) C.value)
-        × (result ≡ Err PathError.CostOverflow → CostOverflows N.eq edges (start ∷ []) (N.eq end) C.fits)) }
-    ensures errors { IfErr result (λ e. (e ≡ PathError.OutOfMemory) ⊎ (e ≡ PathError.CostOverflow)) }
-{
-    let mut forth = Search::begin(alloc, graph.forth.nodes.len(), 0)?;
-    let mut back = Search::begin(alloc, graph.back.nodes.len(), 0)?;
-    path_across(alloc, graph, &mut forth, &mut back)
 }
 
 /// A cheapest path from `start` to `end`, with its cost, or `None` exactly where no walk leads from
@@ -406,5 +387,5 @@ where
             function: predecessors,
         },
     };
-    path_between(alloc, &mut TwoSided { forth, back })
+    cheapest_path(alloc, &mut TwoSided { forth, back })
 }

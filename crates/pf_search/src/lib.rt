@@ -2,4 +2,5 @@
 #![tactic(auto)]
 
 pub mod directed;
+pub mod discovered;
 pub mod laws;

@@ -6,8 +6,11 @@ ghost use Rattle.pf_tables.specs.Graphs.{graph_of};
 
 use pf_adjacency::BothWays;
 use pf_base::{Cost, PathError};
-use pf_table_functions::edges::edges_of;
+use pf_both_ends::discovered::cheapest_path;
+use pf_table_functions::discovery::edge_discovery;
+use pf_table_functions::table_nodes::TableNodes;
 use pf_tables::Graph;
+use pf_two_sided::two_sided::TwoSided;
 use std::alloc::Allocator;
 
 /// A cheapest path from the node `from` to the node `to`, with its cost, or `None` exactly where no
@@ -44,11 +47,11 @@ where
     let back = graph.back();
     forth.known();
     back.known();
-    pf_both_ends::dijkstra_bidirectional(
-        alloc,
-        &from,
-        &to,
-        |n: &usize| edges_of(forth, *n),
-        |n: &usize| edges_of(back, *n),
-    )
+    let nodes = TableNodes::begin(alloc, forth.len(), from)?;
+    let nodes_back = TableNodes::begin(alloc, back.len(), to)?;
+    let mut both = TwoSided {
+        forth: edge_discovery(forth, nodes),
+        back: edge_discovery(back, nodes_back),
+    };
+    cheapest_path(alloc, &mut both)
 }

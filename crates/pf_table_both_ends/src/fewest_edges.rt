@@ -6,9 +6,11 @@ ghost use Rattle.pf_tables.specs.Graphs.{successors_of};
 
 use pf_adjacency::BothWays;
 use pf_base::{Cost, PathError};
-use pf_table_functions::edges::ends_of;
+use pf_both_ends::discovered::fewest_edges_path;
+use pf_table_functions::discovery::hop_discovery;
+use pf_table_functions::table_nodes::TableNodes;
 use pf_tables::Graph;
-use pf_utils::NodeRefs;
+use pf_two_sided::two_sided::TwoSided;
 use std::alloc::Allocator;
 
 /// A path with fewest edges from the node `from` to the node `to`, or `None` exactly where no walk
@@ -39,13 +41,11 @@ where
 {
     let forth = graph.forth();
     let back = graph.back();
-    let starts = NodeRefs::from_one(alloc, &from)?;
-    let ends = NodeRefs::from_one(alloc, &to)?;
-    pf_both_ends::bfs_bidirectional(
-        alloc,
-        &starts,
-        &ends,
-        |n: &usize| ends_of(forth, *n),
-        |n: &usize| ends_of(back, *n),
-    )
+    let nodes = TableNodes::begin(alloc, forth.len(), from)?;
+    let nodes_back = TableNodes::begin(alloc, back.len(), to)?;
+    let mut both = TwoSided {
+        forth: hop_discovery(forth, nodes),
+        back: hop_discovery(back, nodes_back),
+    };
+    fewest_edges_path(alloc, &mut both)
 }

@@ -7,10 +7,26 @@ ghost use Rattle.pf_search.specs.Parents.{IsCheapestMap, IsPartialMap};
 ghost use Rattle.pf_tables.specs.Graphs.{graph_of};
 
 use pf_base::{Cost, PathError};
+use pf_discovery::tested::TestedBy;
 use pf_search::directed::dijkstra::Parents;
-use pf_table_functions::edges::edges_of;
+use pf_search::discovered::partial_map;
+use pf_table_functions::discovery::edge_discovery;
+use pf_table_functions::goal_test::GoalTest;
+use pf_table_functions::table_nodes::TableNodes;
 use pf_tables::{Goals, Graph};
 use std::alloc::Allocator;
+
+/// No node is a goal.
+#[derive(Clone, Copy)]
+struct NoGoal;
+
+impl Goals for NoGoal {
+    ghost passes = { λ _ _. false };
+
+    fn is_goal(&self, _: usize) -> bool {
+        false
+    }
+}
 
 /// The parents and the cheapest costs of all nodes in reach of `from`, save that one: exactly these
 /// have an entry, with the cost of a cheapest path and a node before it on such a path.
@@ -39,8 +55,8 @@ where
     ensures overflow { result ≡ Err PathError.CostOverflow → CostOverflows nat_eq (graph_of C.value (G.size graph.now) (G.places graph.now)) (from ∷ []) (λ _. false) C.fits }
     ensures errors { IfErr result (λ e. (e ≡ PathError.OutOfMemory) ⊎ (e ≡ PathError.CostOverflow)) }
 {
-    graph.known();
-    pf_search::directed::dijkstra::dijkstra_all(alloc, &from, |n: &usize| edges_of(graph, *n))
+    let (parents, _) = dijkstra_partial(alloc, graph, from, NoGoal)?;
+    Ok(parents)
 }
 
 /// The parents and costs of the nodes that a search by rising cost has found where it comes to the
@@ -74,10 +90,9 @@ where
     ensures errors { IfErr result (λ e. (e ≡ PathError.OutOfMemory) ⊎ (e ≡ PathError.CostOverflow)) }
 {
     graph.known();
-    pf_search::directed::dijkstra::dijkstra_partial(
-        alloc,
-        &from,
-        |n: &usize| edges_of(graph, *n),
-        |n: &usize| goals.is_goal(*n),
-    )
+    let mut searched = TestedBy {
+        discovery: edge_discovery(graph, TableNodes::begin(alloc, graph.len(), from)?),
+        success: GoalTest::new(goals),
+    };
+    partial_map(alloc, &mut searched)
 }

@@ -3,7 +3,6 @@ use Rattle.std.specs.Prelude.{◌≡◌, ◌⊎◌, ◌↔◌, ◌≤ℤ◌, ◌
 use Rattle.pf_base.specs.Walks.{end_of}
 use Rattle.pf_base.specs.Edges.{InReach, HasNoNegativeCost}
 use Rattle.pf_base.specs.Answers.{ListsEdges}
-use Rattle.std.specs.HashSet.{HashSet}
 use Rattle.pf_discovery.specs.declared.discovery.DiscoveryBy.{DiscoveryBy}
 use Rattle.pf_core.specs.declared.labels.Label.{Label}
 use Rattle.pf_core.specs.declared.search.Search.{Search}
@@ -21,8 +20,8 @@ abbrev pub from_one : {N : Type 0} → N → (N → List (N × ℤ)) → NodeGra
 from_one start edges = record { starts = start ∷ []; edges = edges }
 
 -- what is asked answers these edges from the node on, and the nodes found are in reach
-abbrev pub ExploresFrom : {N S H : Type 0} → (N → N → Bool) → (S → List N → (N → List (N × ℤ)) → Type 0) → N → (N → List (N × ℤ)) → DiscoveryBy (HashSet N H) S → Type 0
-ExploresFrom eq answers start edges discovery = Explores eq answers (from_one start edges) discovery.nodes.keys discovery.source
+abbrev pub ExploresFrom : {N M S : Type 0} → (N → N → Bool) → (M → List N) → (S → List N → (N → List (N × ℤ)) → Type 0) → N → (N → List (N × ℤ)) → DiscoveryBy M S → Type 0
+ExploresFrom eq keys answers start edges discovery = Explores eq answers (from_one start edges) (keys discovery.nodes) discovery.source
 
 -- no two numbers stand for one node
 abbrev pub AreNumberedOnce : {N : Type 0} → (N → N → Bool) → List N → Type 0
@@ -129,38 +128,38 @@ module _ {N C Z : Type 0} (eq : N → N → Bool) (value : C → ℤ) (keys othe
   IsFirstMeeting cost numbers r = (slice_get numbers r.0 ≡ Some r.1.here) × IsMeetingOn r.1 × (value r.1.cost ≤ℤ cost) × NoMeetingAmong cost (take r.0 numbers)
 
 -- What is said above of nodes and labels, said of a graph that is searched from both ends and of its two searches.
-module _ {N C S P Z : Type 0} where
+module _ {N M C S P Z : Type 0} (keys : M → List N) where
   -- both are sound, and have a slot for each number that was found
-  abbrev pub AreSoundOn : (C → ℤ) → TwoSided N S P Z → Search C Z → Search C Z → Type 0
-  AreSoundOn value graph forth back = AreSound value graph.forth.nodes.keys graph.back.nodes.keys forth.labels.items back.labels.items forth.queue.items back.queue.items
+  abbrev pub AreSoundOn : (C → ℤ) → TwoSided M S P → Search C Z → Search C Z → Type 0
+  AreSoundOn value graph forth back = AreSound value (keys graph.forth.nodes) (keys graph.back.nodes) forth.labels.items back.labels.items forth.queue.items back.queue.items
 
   -- the chains of numbers lead to one node, whose labels sum to no more than the cost, and which is the first of its chain with such labels
-  abbrev pub AreHalvesOn : (N → N → Bool) → (C → ℤ) → TwoSided N S P Z → Search C Z → Search C Z → ℤ → List ℕ → List ℕ → Type 0
-  AreHalvesOn eq value graph forth back cost numbers back_numbers = AreHalves eq value graph.forth.nodes.keys graph.back.nodes.keys forth.labels.items back.labels.items cost numbers back_numbers
+  abbrev pub AreHalvesOn : (N → N → Bool) → (C → ℤ) → TwoSided M S P → Search C Z → Search C Z → ℤ → List ℕ → List ℕ → Type 0
+  AreHalvesOn eq value graph forth back cost numbers back_numbers = AreHalves eq value (keys graph.forth.nodes) (keys graph.back.nodes) forth.labels.items back.labels.items cost numbers back_numbers
 
   -- both are searches by rising cost, each mirrors the other, and no meeting is cheaper than t
-  abbrev pub IsPairOn : (N → N → Bool) → (C → ℤ) → (ℤ → Type 0) → (N → List (N × ℤ)) → (N → List (N × ℤ)) → N → N → TwoSided N S P Z → Search C Z → Search C Z → ℤ → Type 0
-  IsPairOn eq value fits edges previous start end graph forth back t = IsPair eq value fits edges previous start end graph.forth.nodes.keys graph.back.nodes.keys forth.labels.items back.labels.items t
+  abbrev pub IsPairOn : (N → N → Bool) → (C → ℤ) → (ℤ → Type 0) → (N → List (N × ℤ)) → (N → List (N × ℤ)) → N → N → TwoSided M S P → Search C Z → Search C Z → ℤ → Type 0
+  IsPairOn eq value fits edges previous start end graph forth back t = IsPair eq value fits edges previous start end (keys graph.forth.nodes) (keys graph.back.nodes) forth.labels.items back.labels.items t
 
 -- What both sides of a graph answer, each in reach of its own end.
-module _ {N S P Z : Type 0} (eq : N → N → Bool) (answers : S → List N → (N → List (N × ℤ)) → Type 0) (answers_back : P → List N → (N → List (N × ℤ)) → Type 0) (graph : TwoSided N S P Z) where
+module _ {N M S P : Type 0} (eq : N → N → Bool) (keys : M → List N) (answers : S → List N → (N → List (N × ℤ)) → Type 0) (answers_back : P → List N → (N → List (N × ℤ)) → Type 0) (graph : TwoSided M S P) where
   -- they answer some edges from one node on and some edges back from another
   abbrev pub AnswersEnds : Type 0
-  AnswersEnds = (edges previous : N → List (N × ℤ)) × (start end : N) × ExploresFrom eq answers start edges graph.forth × ExploresFrom eq answers_back end previous graph.back
-      × AreEnds eq edges previous start end graph.forth.nodes.keys graph.back.nodes.keys
+  AnswersEnds = (edges previous : N → List (N × ℤ)) × (start end : N) × ExploresFrom eq keys answers start edges graph.forth × ExploresFrom eq keys answers_back end previous graph.back
+      × AreEnds eq edges previous start end (keys graph.forth.nodes) (keys graph.back.nodes)
 
   -- of whatever edges, edges back and ends these are, Q holds
   abbrev pub OfEnds : ((N → List (N × ℤ)) → (N → List (N × ℤ)) → N → N → Type 0) → Type 0
-  OfEnds Q = (edges previous : N → List (N × ℤ)) (start end : N) → ExploresFrom eq answers start edges graph.forth → ExploresFrom eq answers_back end previous graph.back
-      → AreEnds eq edges previous start end graph.forth.nodes.keys graph.back.nodes.keys → Q edges previous start end
+  OfEnds Q = (edges previous : N → List (N × ℤ)) (start end : N) → ExploresFrom eq keys answers start edges graph.forth → ExploresFrom eq keys answers_back end previous graph.back
+      → AreEnds eq edges previous start end (keys graph.forth.nodes) (keys graph.back.nodes) → Q edges previous start end
 
-  module _ {C : Type 0} (value : C → ℤ) (fits : ℤ → Type 0) (forth back : Search C Z) (t : ℤ) where
+  module _ {C Z : Type 0} (value : C → ℤ) (fits : ℤ → Type 0) (forth back : Search C Z) (t : ℤ) where
     -- the same, where the two searches are from these nodes, and no meeting is cheaper than t
     abbrev pub AnswersPair : Type 0
-    AnswersPair = (edges previous : N → List (N × ℤ)) × (start end : N) × ExploresFrom eq answers start edges graph.forth × ExploresFrom eq answers_back end previous graph.back
-        × IsPairOn eq value fits edges previous start end graph forth back t
+    AnswersPair = (edges previous : N → List (N × ℤ)) × (start end : N) × ExploresFrom eq keys answers start edges graph.forth × ExploresFrom eq keys answers_back end previous graph.back
+        × IsPairOn keys eq value fits edges previous start end graph forth back t
 
     -- of whatever edges, edges back and ends these are, Q holds
     abbrev pub OfPair : ((N → List (N × ℤ)) → (N → List (N × ℤ)) → N → N → Type 0) → Type 0
-    OfPair Q = (edges previous : N → List (N × ℤ)) (start end : N) → ExploresFrom eq answers start edges graph.forth → ExploresFrom eq answers_back end previous graph.back
-        → IsPairOn eq value fits edges previous start end graph forth back t → Q edges previous start end
+    OfPair Q = (edges previous : N → List (N × ℤ)) (start end : N) → ExploresFrom eq keys answers start edges graph.forth → ExploresFrom eq keys answers_back end previous graph.back
+        → IsPairOn keys eq value fits edges previous start end graph forth back t → Q edges previous start end

@@ -14,35 +14,37 @@ pub use crate::directed::dijkstra_reach::{
 use pf_base::{Cost, EdgeFunction, NodeTest, PathError, Tally};
 use pf_core::dijkstra::cheapest_path;
 use pf_discovery::discovery::{Discovery, clone_of};
+use pf_discovery::numbering::Numbering;
 use pf_discovery::source::{EdgeSource, Weighted};
-use pf_discovery::tested::Tested;
+use pf_discovery::tested::{Tested, TestedBy};
 use std::alloc::Allocator;
 use std::hash::Hash;
 
 /// A cheapest path from the only node that was found, with its cost and one tick of `tally` for each
 /// node whose successors are asked for.
-fn path_tallied<N, C, S, T, A>(
+fn path_tallied<N, M, C, S, T, A>(
     alloc: A,
-    graph: &mut Tested<N, S, T, A>,
+    graph: &mut TestedBy<M, S, T>,
     tally: &mut Tally,
 ) -> Result<Option<(Vec<N, A>, C)>, PathError>
 where
-    N: Eq + Hash + Clone + Drop,
+    N: Eq + Clone + Drop,
+    M: Numbering<Node = N>,
     C: Cost,
     S: EdgeSource<N, C>,
     T: NodeTest<N>,
     A: Allocator + Copy,
     requires clones { IsLawfulClone N.eq N.is_clone }
-    requires one { length graph.old.discovery.nodes.keys ≡ 1 }
-    requires graph { HasBegun N.eq S.answers T.answers graph.old }
+    requires one { length (M.keys graph.old.discovery.nodes) ≡ 1 }
+    requires graph { HasBegun N.eq M.keys S.answers T.answers graph.old }
 
-    ensures best { OfBegun N.eq S.answers T.answers graph.old (λ edges start test. HasNoNegativeCost N.eq edges (start ∷ [])
+    ensures best { OfBegun N.eq M.keys S.answers T.answers graph.old (λ edges start test. HasNoNegativeCost N.eq edges (start ∷ [])
         → IfOk result (IsCheapestOrNone N.eq edges (start ∷ []) test C.value)) }
 
-    ensures overflow { OfBegun N.eq S.answers T.answers graph.old (λ edges start test. HasNoNegativeCost N.eq edges (start ∷ [])
+    ensures overflow { OfBegun N.eq M.keys S.answers T.answers graph.old (λ edges start test. HasNoNegativeCost N.eq edges (start ∷ [])
         → result ≡ Err PathError.CostOverflow → CostOverflows N.eq edges (start ∷ []) test C.fits) }
 
-    ensures asked { OfBegun N.eq S.answers T.answers graph.old (λ edges start test.
+    ensures asked { OfBegun N.eq M.keys S.answers T.answers graph.old (λ edges start test.
         IsAtMostNumberOf N.eq (InReach N.eq edges (start ∷ [])) (tally.new - tally.old)) }
 
     ensures ticked { tally.old ≤ tally.new }

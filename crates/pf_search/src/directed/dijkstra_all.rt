@@ -1,83 +1,19 @@
 //! Cheapest paths to all nodes in reach of a start, or to those up to a node at which the search stops.
 
-ghost use Rattle.std.specs.Prelude.{◌≡◌, ◌⊎◌, ◌<◌, [], ◌∷◌, List, ℕ, ℤ, Bool, Err, false, length, IfOk, IfErr};
+ghost use Rattle.std.specs.Prelude.{◌≡◌, ◌⊎◌, [], ◌∷◌, Err, false, IfOk, IfErr};
 ghost use Rattle.std.specs.HashMap.{get};
 ghost use Rattle.pf_base.specs.Answers.{IsLawfulClone};
-ghost use Rattle.pf_base.specs.Edges.{HasNoNegativeCost, AnswersWeightedGraph, OfWeightedGraph, AnswersWeightedSearch, OfWeightedSearch, CostOverflows};
-ghost use Rattle.pf_core.specs.declared.labels.Label.{Label};
-ghost use Rattle.pf_core.specs.Labels.{HasLabel};
+ghost use Rattle.pf_base.specs.Edges.{AnswersWeightedGraph, OfWeightedGraph, AnswersWeightedSearch, OfWeightedSearch, CostOverflows};
 ghost use Rattle.pf_search.specs.Parents.{IsCheapestMap, IsPartialMap};
-ghost use Rattle.pf_search.specs.Internal.Begun.{IsBegun, OfBegun};
-ghost use Rattle.pf_search.specs.Internal.Partial.{MapsLabels};
 
 use crate::directed::build_path::Parents;
-use pf_base::{Cost, EdgeFunction, NodeTest, PathError, Tally};
-use pf_core::dijkstra::search_to_goal;
-use pf_core::slot::Slot;
+use crate::discovered::partial_map;
+use pf_base::{Cost, EdgeFunction, NodeTest, PathError};
 use pf_discovery::discovery::{Discovery, clone_of};
-use pf_discovery::source::{EdgeSource, Weighted};
+use pf_discovery::source::Weighted;
 use pf_discovery::tested::Tested;
 use std::alloc::Allocator;
-use std::collections::HashMap;
 use std::hash::Hash;
-
-/// The map of the parents and costs that labels say, save that of number 0, of clones of the nodes.
-fn map_of<N, C, A>(alloc: A, nodes: &[N], labels: &[Slot<C>]) -> Result<Parents<N, C, A>, PathError>
-where
-    N: Eq + Hash + Clone + Drop,
-    C: Cost,
-    A: Allocator + Copy,
-    requires clones { IsLawfulClone N.eq N.is_clone }
-    requires wide { length labels.now ≡ length nodes.now }
-    requires behind { (k : ℕ) (l : Label C) → 0 < k → HasLabel labels.now k l → l.parent < length nodes.now }
-    ensures maps { IfOk result (λ parents. MapsLabels N.eq nodes.now labels.now (length labels.now) (get N.eq parents)) }
-    ensures refused { IfErr result (λ e. e ≡ PathError.OutOfMemory) }
-{
-    let mut parents = HashMap::with_capacity(alloc, labels.len())?;
-    'numbers: for number in 1..labels.len() {
-        if let Some(label) = labels[number].label() {
-            let parent = nodes[label.parent].clone()?;
-            let node = nodes[number].clone()?;
-            parents.insert(node, (parent, label.cost))?;
-        }
-    }
-    Ok(parents)
-}
-
-/// The map of the parents and costs that a search from the only node that was found comes to, and the
-/// node at which it stops.
-fn partial_map<N, C, S, T, A>(
-    alloc: A,
-    graph: &mut Tested<N, S, T, A>,
-) -> Result<(Parents<N, C, A>, Option<N>), PathError>
-where
-    N: Eq + Hash + Clone + Drop,
-    C: Cost,
-    S: EdgeSource<N, C>,
-    T: NodeTest<N>,
-    A: Allocator + Copy,
-    requires clones { IsLawfulClone N.eq N.is_clone }
-    requires one { length graph.old.discovery.nodes.keys ≡ 1 }
-    requires graph { (edges : N → List (N × ℤ)) × (start : N) × (test : N → Bool)
-        × IsBegun N.eq S.answers T.answers edges start test graph.old × HasNoNegativeCost N.eq edges (start ∷ []) }
-
-    ensures partial { OfBegun N.eq S.answers T.answers graph.old (λ edges start test. HasNoNegativeCost N.eq edges (start ∷ [])
-        → IfOk result (λ found. IsPartialMap N.eq edges start C.value (get N.eq found.0) test found.1)) }
-
-    ensures overflow { OfBegun N.eq S.answers T.answers graph.old (λ edges start test. HasNoNegativeCost N.eq edges (start ∷ [])
-        → result ≡ Err PathError.CostOverflow → CostOverflows N.eq edges (start ∷ []) test C.fits) }
-
-    ensures errors { IfErr result (λ e. (e ≡ PathError.OutOfMemory) ⊎ (e ≡ PathError.CostOverflow)) }
-{
-    let (labels, goal) = search_to_goal(alloc, graph, 0, &mut Tally::new())?;
-    let nodes = graph.discovery.nodes.as_slice();
-    let parents = map_of(alloc, nodes, &labels)?;
-    let stopped = match goal {
-        Some(number) => Some(nodes[number].clone()?),
-        None => None,
-    };
-    Ok((parents, stopped))
-}
 
 /// The parents and the cheapest costs of all nodes in reach of `start`, save the start.
 ///

@@ -3,8 +3,8 @@ use Rattle.std.proofs.lemmas.Result.{IfOk-from_err}
 use Rattle.pf_base.proofs.Outcomes.{refused_as}
 use Rattle.pf_both_ends.proofs.bfs.bfs_bidirectional.Goals as goal
 
-pub path_between-requires-clause-graph : goal.path_between-requires-clause-graph
-path_between-requires-clause-graph g c =
+pub fewest_edges_path-requires-clause-graph : goal.fewest_edges_path-requires-clause-graph
+fewest_edges_path-requires-clause-graph g c =
     let r = c.requires.graph in
     let eq = g.N.PartialEq.eq in
     let laws = g.met.N.Eq.laws in
@@ -20,8 +20,8 @@ path_between-requires-clause-graph g c =
       Explores-successors_of eq laws _ _ _ _ _ ends found_back.field-0.keys r.1 _ found_back.ensures.distinct found_back.ensures.same r.2.predecessors_answered,
     )
 
-pub path_between-requires-clause-clones : goal.path_between-requires-clause-clones
-path_between-requires-clause-clones g c = c.requires.clones
+pub fewest_edges_path-requires-clause-clones : goal.fewest_edges_path-requires-clause-clones
+fewest_edges_path-requires-clause-clones g c = c.requires.clones
 
 pub returns-in_err-clones_of-2 : goal.returns-in_err-clones_of-2
 returns-in_err-clones_of-2 g c = record {
@@ -46,6 +46,6 @@ returns g c = record {
       let found_back = c.in_ok-clones_of-2 in
       let x = Explores-successors_of eq laws _ _ _ _ _ starts found.field-0.keys next _ found.ensures.distinct found.ensures.same s.successors_answered in
       let y = Explores-successors_of eq laws _ _ _ _ _ ends found_back.field-0.keys previous _ found_back.ensures.distinct found_back.ensures.same s.predecessors_answered in
-      c.path_between.ensures.best next previous starts ends x y found.ensures.same found_back.ensures.same s.mirror;
-  errors = c.path_between.ensures.errors;
+      c.fewest_edges_path.ensures.best next previous starts ends x y found.ensures.same found_back.ensures.same s.mirror;
+  errors = c.fewest_edges_path.ensures.errors;
 }

@@ -173,7 +173,7 @@ turns-preserved-then-waits_for_no_more g c =
     let v = c.turns.invariant in
     let z = c.in-Some.ensures.least in
     let labels = c.turns.forth.labels.items in
-    let keys = c.turns.graph.forth.nodes.keys in
+    let keys = g.M.Numbering.keys c.turns.graph.forth.nodes in
     let e = c.in_ok-turn.ensures in
     let found = c.meeting_at-found in
     let chosen = c.cheaper-best in
@@ -187,8 +187,8 @@ turns-preserved-then-waits_for_no_more g c =
       pair = λ edges previous start end x y p.
           let both = v.pair edges previous start end x y p in
           let explores = v.explored_forth _ x in
-          turned_forth eq laws value fits edges previous start end keys c.turns.graph.back.nodes.keys labels c.turns.back.labels.items (value g.C.Cost.greatest) c.turns.best both.0 both.1 _ _ c.turn.new.self.labels.items c.in-Some.ensures.same c.in-Some-least.ensures.same e.sound.tree c.in-Some.number z.0
-          c.cost_at-cost.result c.is_best.ensures.fit.0 chosen.result chosen.ensures.best c.turn.new.graph.nodes.keys e.grows (e.graph _ explores).distinct (e.search _ explores (positive eq laws value fits edges start keys labels (both.0).forth) (λ k. nat_eq k 0)) z.1.at e.turned c.cost_at-cost.ensures v.wide_forth
+          turned_forth eq laws value fits edges previous start end keys (g.M.Numbering.keys c.turns.graph.back.nodes) labels c.turns.back.labels.items (value g.C.Cost.greatest) c.turns.best both.0 both.1 _ _ c.turn.new.self.labels.items c.in-Some.ensures.same c.in-Some-least.ensures.same e.sound.tree c.in-Some.number z.0
+          c.cost_at-cost.result c.is_best.ensures.fit.0 chosen.result chosen.ensures.best (g.M.Numbering.keys c.turn.new.graph.nodes) e.grows (e.graph _ explores).distinct (e.search _ explores (positive eq laws value fits edges start keys labels (both.0).forth) (λ k. nat_eq k 0)) z.1.at e.turned c.cost_at-cost.ensures v.wide_forth
           found.result found.ensures.meets found.ensures.low chosen.ensures.one chosen.ensures.other;
     }
 
@@ -216,7 +216,7 @@ turns-preserved-in-Ok g c =
     let v = c.turns.invariant in
     let z = c.in-Some-least.ensures.least in
     let labels' = c.turns.back.labels.items in
-    let others = c.turns.graph.back.nodes.keys in
+    let others = g.M.Numbering.keys c.turns.graph.back.nodes in
     let turn = c.turn-else-waits_for_no_more in
     let e = c.in-Ok.ensures in
     let found = c.meeting_at-found-in-Ok in
@@ -231,8 +231,8 @@ turns-preserved-in-Ok g c =
       pair = λ edges previous start end x y p.
           let both = v.pair edges previous start end x y p in
           let explores = v.explored_back _ y in
-          turned_back eq laws value fits edges previous start end c.turns.graph.forth.nodes.keys others c.turns.forth.labels.items labels' (value g.C.Cost.greatest) c.turns.best both.0 both.1 _ _ turn.new.self.labels.items c.in-Some.ensures.same c.in-Some-least.ensures.same e.sound.tree c.in-Some-least.across z.0
-          c.cost_at-cost_back.result c.is_best.ensures.fit.1 chosen.result chosen.ensures.best turn.new.graph.nodes.keys e.grows (e.graph _ explores).distinct (e.search _ explores (positive eq laws value fits previous end others labels' (both.0).back) (λ k. nat_eq k 0)) z.1.at e.turned c.cost_at-cost_back.ensures v.wide_back
+          turned_back eq laws value fits edges previous start end (g.M.Numbering.keys c.turns.graph.forth.nodes) others c.turns.forth.labels.items labels' (value g.C.Cost.greatest) c.turns.best both.0 both.1 _ _ turn.new.self.labels.items c.in-Some.ensures.same c.in-Some-least.ensures.same e.sound.tree c.in-Some-least.across z.0
+          c.cost_at-cost_back.result c.is_best.ensures.fit.1 chosen.result chosen.ensures.best (g.M.Numbering.keys turn.new.graph.nodes) e.grows (e.graph _ explores).distinct (e.search _ explores (positive eq laws value fits previous end others labels' (both.0).back) (λ k. nat_eq k 0)) z.1.at e.turned c.cost_at-cost_back.ensures v.wide_back
           found.result c.turned_about.result c.turned_about.ensures found.ensures.meets found.ensures.low chosen.ensures.one chosen.ensures.other;
     }
 
@@ -251,7 +251,7 @@ turns-preserved g c =
       explored_back = λ h x. e.graph h (v.explored_back h x);
       pair = λ edges previous start end x y p.
           let both = v.pair edges previous start end x y p in
-          both_kept eq g.met.N.Eq.laws g.C.Number.value g.C.Number.fits edges previous start end c.turns.graph.forth.nodes.keys c.turns.graph.back.nodes.keys c.turns.forth.labels.items c.turns.back.labels.items _ both.0 turn.new.graph.nodes.keys e.grows (e.graph _ (v.explored_back _ y)).distinct v.wide_back
+          both_kept eq g.met.N.Eq.laws g.C.Number.value g.C.Number.fits edges previous start end (g.M.Numbering.keys c.turns.graph.forth.nodes) (g.M.Numbering.keys c.turns.graph.back.nodes) c.turns.forth.labels.items c.turns.back.labels.items _ both.0 (g.M.Numbering.keys turn.new.graph.nodes) e.grows (e.graph _ (v.explored_back _ y)).distinct v.wide_back
           _ turn.new.self.labels.items c.in-Some.ensures.same (e.kept.1 ∙ c.in-Some-least.ensures.same) c.turns.best both.1;
     }
 

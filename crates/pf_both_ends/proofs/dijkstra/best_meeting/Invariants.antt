@@ -16,15 +16,15 @@ invariant-turns g l =
     record {
       sound_forth : IsSound value l.forth.labels.items l.forth.queue.items;
       sound_back : IsSound value l.back.labels.items l.back.queue.items;
-      wide_forth : length l.forth.labels.items ≡ length l.graph.forth.nodes.keys;
-      wide_back : length l.back.labels.items ≡ length l.graph.back.nodes.keys;
-      explored_forth : (h : NodeGraph g.row.N.Denot) → explores h l.fn.graph.forth.nodes.keys l.fn.graph.forth.source → explores h l.graph.forth.nodes.keys l.graph.forth.source;
-      explored_back : (h : NodeGraph g.row.N.Denot) → explores_back h l.fn.graph.back.nodes.keys l.fn.graph.back.source → explores_back h l.graph.back.nodes.keys l.graph.back.source;
+      wide_forth : length l.forth.labels.items ≡ length (g.M.Numbering.keys l.graph.forth.nodes);
+      wide_back : length l.back.labels.items ≡ length (g.M.Numbering.keys l.graph.back.nodes);
+      explored_forth : (h : NodeGraph g.row.N.Denot) → explores h (g.M.Numbering.keys l.fn.graph.forth.nodes) l.fn.graph.forth.source → explores h (g.M.Numbering.keys l.graph.forth.nodes) l.graph.forth.source;
+      explored_back : (h : NodeGraph g.row.N.Denot) → explores_back h (g.M.Numbering.keys l.fn.graph.back.nodes) l.fn.graph.back.source → explores_back h (g.M.Numbering.keys l.graph.back.nodes) l.graph.back.source;
       pair : (edges previous : g.row.N.Denot → List (g.row.N.Denot × ℤ)) (start end : g.row.N.Denot)
-          → explores (from_one start edges) l.fn.graph.forth.nodes.keys l.fn.graph.forth.source → explores_back (from_one end previous) l.fn.graph.back.nodes.keys l.fn.graph.back.source
-          → IsPair eq value g.C.Number.fits edges previous start end l.fn.graph.forth.nodes.keys l.fn.graph.back.nodes.keys l.fn.forth.labels.items l.fn.back.labels.items (top +ℤ pos 1)
-          → IsPair eq value g.C.Number.fits edges previous start end l.graph.forth.nodes.keys l.graph.back.nodes.keys l.forth.labels.items l.back.labels.items (bound value top l.best)
-          × IfSome l.best (λ m. IsMeeting eq value l.graph.forth.nodes.keys l.graph.back.nodes.keys l.forth.labels.items l.back.labels.items m);
+          → explores (from_one start edges) (g.M.Numbering.keys l.fn.graph.forth.nodes) l.fn.graph.forth.source → explores_back (from_one end previous) (g.M.Numbering.keys l.fn.graph.back.nodes) l.fn.graph.back.source
+          → IsPair eq value g.C.Number.fits edges previous start end (g.M.Numbering.keys l.fn.graph.forth.nodes) (g.M.Numbering.keys l.fn.graph.back.nodes) l.fn.forth.labels.items l.fn.back.labels.items (top +ℤ pos 1)
+          → IsPair eq value g.C.Number.fits edges previous start end (g.M.Numbering.keys l.graph.forth.nodes) (g.M.Numbering.keys l.graph.back.nodes) l.forth.labels.items l.back.labels.items (bound value top l.best)
+          × IfSome l.best (λ m. IsMeeting eq value (g.M.Numbering.keys l.graph.forth.nodes) (g.M.Numbering.keys l.graph.back.nodes) l.forth.labels.items l.back.labels.items m);
     }
 
 abbrev pub decreases-turns : goal.decreases-turns

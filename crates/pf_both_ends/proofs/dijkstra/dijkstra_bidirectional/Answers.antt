@@ -5,8 +5,8 @@ use Rattle.std.proofs.Common.{inl}
 use Rattle.pf_base.proofs.Outcomes.{no_overflow, refused_as}
 use Rattle.pf_both_ends.proofs.dijkstra.dijkstra_bidirectional.Goals as goal
 
-pub path_between-requires-clause-ends : goal.path_between-requires-clause-ends
-path_between-requires-clause-ends g c =
+pub cheapest_path-requires-clause-ends : goal.cheapest_path-requires-clause-ends
+cheapest_path-requires-clause-ends g c =
     let r = c.requires.graph in
     let s = r.2 in
     let eq = g.N.PartialEq.eq in
@@ -24,8 +24,8 @@ path_between-requires-clause-ends g c =
       record { begins = found.ensures.begins; begins_back = found_back.ensures.begins; mirror = s.mirror; costs = s.costs; costs_back = s.costs_back },
     )
 
-pub path_between-requires-clause-clones : goal.path_between-requires-clause-clones
-path_between-requires-clause-clones g c = c.requires.clones
+pub cheapest_path-requires-clause-clones : goal.cheapest_path-requires-clause-clones
+cheapest_path-requires-clause-clones g c = c.requires.clones
 
 pub returns : goal.returns
 returns g c = record {
@@ -38,7 +38,7 @@ returns g c = record {
       let found_back = c.in_ok-clone_of-2 in
       let x = Explores-edges_of eq laws _ _ _ _ _ _ (from_one start edges) found.field-0.keys _ found.ensures.distinct found.ensures.same s.edges_answered in
       let y = Explores-edges_of eq laws _ _ _ _ _ _ (from_one end previous) found_back.field-0.keys _ found_back.ensures.distinct found_back.ensures.same s.previous_answered in
-      (c.path_between.ensures.best edges previous start end x y (record { begins = found.ensures.begins; begins_back = found_back.ensures.begins; mirror = s.mirror; costs = s.costs; costs_back = s.costs_back })).0;
+      (c.cheapest_path.ensures.best edges previous start end x y (record { begins = found.ensures.begins; begins_back = found_back.ensures.begins; mirror = s.mirror; costs = s.costs; costs_back = s.costs_back })).0;
   overflow = λ edges previous s.
       let eq = g.N.PartialEq.eq in
       let laws = g.met.N.Eq.laws in
@@ -48,15 +48,15 @@ returns g c = record {
       let found_back = c.in_ok-clone_of-2 in
       let x = Explores-edges_of eq laws _ _ _ _ _ _ (from_one start edges) found.field-0.keys _ found.ensures.distinct found.ensures.same s.edges_answered in
       let y = Explores-edges_of eq laws _ _ _ _ _ _ (from_one end previous) found_back.field-0.keys _ found_back.ensures.distinct found_back.ensures.same s.previous_answered in
-      (c.path_between.ensures.best edges previous start end x y (record { begins = found.ensures.begins; begins_back = found_back.ensures.begins; mirror = s.mirror; costs = s.costs; costs_back = s.costs_back })).1;
-  errors = c.path_between.ensures.errors;
+      (c.cheapest_path.ensures.best edges previous start end x y (record { begins = found.ensures.begins; begins_back = found_back.ensures.begins; mirror = s.mirror; costs = s.costs; costs_back = s.costs_back })).1;
+  errors = c.cheapest_path.ensures.errors;
 }
 
-pub path_between-requires-clause-one_forth : goal.path_between-requires-clause-one_forth
-path_between-requires-clause-one_forth g c = c.in_ok-clone_of.ensures.one
+pub cheapest_path-requires-clause-one_forth : goal.cheapest_path-requires-clause-one_forth
+cheapest_path-requires-clause-one_forth g c = c.in_ok-clone_of.ensures.one
 
-pub path_between-requires-clause-one_back : goal.path_between-requires-clause-one_back
-path_between-requires-clause-one_back g c = c.in_ok-clone_of-2.ensures.one
+pub cheapest_path-requires-clause-one_back : goal.cheapest_path-requires-clause-one_back
+cheapest_path-requires-clause-one_back g c = c.in_ok-clone_of-2.ensures.one
 
 pub returns-in_err-clone_of : goal.returns-in_err-clone_of
 returns-in_err-clone_of g c = record {

@@ -23,7 +23,7 @@ pub numbers-preserved : goal.numbers-preserved
 numbers-preserved g c = λ k h j l m x a b d e pl pm. elim (Contains-take_more c.args.numbers.now c.numbers.place 0 k h) as (λ _. (g.C.Number.value c.args.cost +ℤ pos 1) ≤ℤ (g.C.Number.value l.cost +ℤ g.C.Number.value m.cost)) [
   | inl i ↦ c.numbers.invariant k i j l m x a b d e pl pm
   | inr same ↦
-      let here = subst (λ (n : ℕ). StandsFor g.N.PartialEq.eq c.args.nodes.now.keys n x) (sym same) a in
+      let here = subst (λ (n : ℕ). StandsFor g.N.PartialEq.eq (g.M.Numbering.keys c.args.nodes.now) n x) (sym same) a in
       let at = subst (λ (n : ℕ). HasLabel c.args.search.now.labels.items n l) (sym same) d in
       elim c.match-meeting_at.branch as (λ _. (g.C.Number.value c.args.cost +ℤ pos 1) ≤ℤ (g.C.Number.value l.cost +ℤ g.C.Number.value m.cost)) [
         | in-Some+else-is_at_most w ↦

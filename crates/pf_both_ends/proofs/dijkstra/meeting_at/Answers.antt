@@ -17,12 +17,12 @@ pub returns : goal.returns
 returns g c = record {
   meets =
       let item = c.index-found-number.result in
-      let at : slice_get c.args.nodes.now.keys c.args.number ≡ Some item = read_at _ _ _ _ _ c.as_slice-found.ensures.keys c.requires.inside c.index-found-number.is in
-      let place = when_some _ _ _ _ c.in-Some.is (place_across g.N.PartialEq.eq g.met.N.Eq.laws c.args.nodes.now.keys c.args.other_nodes.now.keys c.args.number item c.get_index_of.result at c.get_index_of.ensures.index c.get_index_of.ensures.found) in
+      let at : slice_get (g.M.Numbering.keys c.args.nodes.now) c.args.number ≡ Some item = read_at _ _ _ _ _ c.as_slice-found.ensures.keys c.requires.inside c.index-found-number.is in
+      let place = when_some _ _ _ _ c.in-Some.is (place_across g.N.PartialEq.eq g.met.N.Eq.laws (g.M.Numbering.keys c.args.nodes.now) (g.M.Numbering.keys c.args.other_nodes.now) c.args.number item c.get_number_of.result at c.get_number_of.ensures) in
       let inside : c.in-Some.across < length c.args.other_search.now.labels.items = subst (λ (n : ℕ). c.in-Some.across < n) (sym c.requires.wide) place.0 in
       let slot : slice_get c.args.other_search.now.labels.items c.in-Some.across ≡ Some c.index.result.now = at_place _ _ _ _ inside (sym c.index.ensures) in
       let sum = g.met.C.CheckedAdd.checked_add_law c.label_of-here.result.cost c.in-Some-label.there.cost (Some c.in-Some-checked_add.cost) c.in-Some-checked_add.ensures in
-      let here : StandsFor g.N.PartialEq.eq c.args.nodes.now.keys c.args.number item = (item, at, g.met.N.Eq.laws.refl item) in (
+      let here : StandsFor g.N.PartialEq.eq (g.M.Numbering.keys c.args.nodes.now) c.args.number item = (item, at, g.met.N.Eq.laws.refl item) in (
         refl,
         record {
           node = item;
@@ -37,8 +37,8 @@ returns g c = record {
       );
   low = λ k l m x here there hl hm pl pm.
       let item = c.index-found-number.result in
-      let at : slice_get c.args.nodes.now.keys c.args.number ≡ Some item = read_at _ _ _ _ _ c.as_slice-found.ensures.keys c.requires.inside c.index-found-number.is in
-      let place = when_some _ _ _ _ c.in-Some.is (place_across g.N.PartialEq.eq g.met.N.Eq.laws c.args.nodes.now.keys c.args.other_nodes.now.keys c.args.number item c.get_index_of.result at c.get_index_of.ensures.index c.get_index_of.ensures.found) in
+      let at : slice_get (g.M.Numbering.keys c.args.nodes.now) c.args.number ≡ Some item = read_at _ _ _ _ _ c.as_slice-found.ensures.keys c.requires.inside c.index-found-number.is in
+      let place = when_some _ _ _ _ c.in-Some.is (place_across g.N.PartialEq.eq g.met.N.Eq.laws (g.M.Numbering.keys c.args.nodes.now) (g.M.Numbering.keys c.args.other_nodes.now) c.args.number item c.get_number_of.result at c.get_number_of.ensures) in
       let same : k ≡ c.in-Some.across = c.requires.one k c.in-Some.across x there (place.1 x here) in
       let inside : c.in-Some.across < length c.args.other_search.now.labels.items = subst (λ (n : ℕ). c.in-Some.across < n) (sym c.requires.wide) place.0 in
       let slot : slice_get c.args.other_search.now.labels.items c.in-Some.across ≡ Some c.index.result.now = at_place _ _ _ _ inside (sym c.index.ensures) in
@@ -54,8 +54,8 @@ pub returns-in_default : goal.returns-in_default
 returns-in_default g c = record {
   low = λ k l m x here there hl hm pl pm.
       let item = c.index-found-number.result in
-      let at : slice_get c.args.nodes.now.keys c.args.number ≡ Some item = read_at _ _ _ _ _ c.as_slice-found.ensures.keys c.requires.inside c.index-found-number.is in
-      let place = when_none _ _ _ c.in_default.is (place_across g.N.PartialEq.eq g.met.N.Eq.laws c.args.nodes.now.keys c.args.other_nodes.now.keys c.args.number item c.get_index_of.result at c.get_index_of.ensures.index c.get_index_of.ensures.found) in
+      let at : slice_get (g.M.Numbering.keys c.args.nodes.now) c.args.number ≡ Some item = read_at _ _ _ _ _ c.as_slice-found.ensures.keys c.requires.inside c.index-found-number.is in
+      let place = when_none _ _ _ c.in_default.is (place_across g.N.PartialEq.eq g.met.N.Eq.laws (g.M.Numbering.keys c.args.nodes.now) (g.M.Numbering.keys c.args.other_nodes.now) c.args.number item c.get_number_of.result at c.get_number_of.ensures) in
       absurd (place x here k there);
   meets = tt;
 }
@@ -64,8 +64,8 @@ pub returns-in_default-label : goal.returns-in_default-label
 returns-in_default-label g c = record {
   low = λ k l m x here there hl hm pl pm.
       let item = c.index-found-number.result in
-      let at : slice_get c.args.nodes.now.keys c.args.number ≡ Some item = read_at _ _ _ _ _ c.as_slice-found.ensures.keys c.requires.inside c.index-found-number.is in
-      let place = when_some _ _ _ _ c.in-Some.is (place_across g.N.PartialEq.eq g.met.N.Eq.laws c.args.nodes.now.keys c.args.other_nodes.now.keys c.args.number item c.get_index_of.result at c.get_index_of.ensures.index c.get_index_of.ensures.found) in
+      let at : slice_get (g.M.Numbering.keys c.args.nodes.now) c.args.number ≡ Some item = read_at _ _ _ _ _ c.as_slice-found.ensures.keys c.requires.inside c.index-found-number.is in
+      let place = when_some _ _ _ _ c.in-Some.is (place_across g.N.PartialEq.eq g.met.N.Eq.laws (g.M.Numbering.keys c.args.nodes.now) (g.M.Numbering.keys c.args.other_nodes.now) c.args.number item c.get_number_of.result at c.get_number_of.ensures) in
       let same : k ≡ c.in-Some.across = c.requires.one k c.in-Some.across x there (place.1 x here) in
       let inside : c.in-Some.across < length c.args.other_search.now.labels.items = subst (λ (n : ℕ). c.in-Some.across < n) (sym c.requires.wide) place.0 in
       let slot : slice_get c.args.other_search.now.labels.items c.in-Some.across ≡ Some c.index.result.now = at_place _ _ _ _ inside (sym c.index.ensures) in
@@ -79,8 +79,8 @@ pub returns-in_default-checked_add : goal.returns-in_default-checked_add
 returns-in_default-checked_add g c = record {
   low = λ k l m x here there hl hm pl pm.
       let item = c.index-found-number.result in
-      let at : slice_get c.args.nodes.now.keys c.args.number ≡ Some item = read_at _ _ _ _ _ c.as_slice-found.ensures.keys c.requires.inside c.index-found-number.is in
-      let place = when_some _ _ _ _ c.in-Some.is (place_across g.N.PartialEq.eq g.met.N.Eq.laws c.args.nodes.now.keys c.args.other_nodes.now.keys c.args.number item c.get_index_of.result at c.get_index_of.ensures.index c.get_index_of.ensures.found) in
+      let at : slice_get (g.M.Numbering.keys c.args.nodes.now) c.args.number ≡ Some item = read_at _ _ _ _ _ c.as_slice-found.ensures.keys c.requires.inside c.index-found-number.is in
+      let place = when_some _ _ _ _ c.in-Some.is (place_across g.N.PartialEq.eq g.met.N.Eq.laws (g.M.Numbering.keys c.args.nodes.now) (g.M.Numbering.keys c.args.other_nodes.now) c.args.number item c.get_number_of.result at c.get_number_of.ensures) in
       let same : k ≡ c.in-Some.across = c.requires.one k c.in-Some.across x there (place.1 x here) in
       let inside : c.in-Some.across < length c.args.other_search.now.labels.items = subst (λ (n : ℕ). c.in-Some.across < n) (sym c.requires.wide) place.0 in
       let slot : slice_get c.args.other_search.now.labels.items c.in-Some.across ≡ Some c.index.result.now = at_place _ _ _ _ inside (sym c.index.ensures) in

@@ -1,46 +1,17 @@
 //! Loops with fewest edges.
 
-ghost use Rattle.std.specs.Prelude.{◌≡◌, List, IfOk, IfErr};
+ghost use Rattle.std.specs.Prelude.{◌≡◌, IfOk, IfErr};
 ghost use Rattle.pf_base.specs.Successors.{AnswersUnweightedGraph, OfUnweightedGraph};
 ghost use Rattle.pf_base.specs.Loops.{IsBestLoopOrNone};
 ghost use Rattle.pf_base.specs.Answers.{IsLawfulClone};
-ghost use Rattle.pf_base.specs.NodeRefs.{HasSameNodes};
-ghost use Rattle.pf_discovery.specs.ExploredHops.{ExploresHops};
 
+use crate::discovered::loop_from;
 use pf_base::{PathError, SuccessorFunction};
-use pf_core::clones::clones_at;
-use pf_discovery::bfs_loop::fewest_edges_loop;
 use pf_discovery::discovery::{Discovery, clones_of};
-use pf_discovery::source::{EdgeSource, Unweighted};
+use pf_discovery::source::Unweighted;
 use pf_utils::NodeRefs;
 use std::alloc::Allocator;
 use std::hash::Hash;
-
-/// A walk of at least one step, with fewest edges, from a node that was found before to another or the
-/// same.
-fn loop_from<N, S, A>(
-    alloc: A,
-    graph: &mut Discovery<N, S, A>,
-) -> Result<Option<Vec<N, A>>, PathError>
-where
-    N: Eq + Hash + Clone + Drop,
-    S: EdgeSource<N, u8>,
-    A: Allocator + Copy,
-    requires clones { IsLawfulClone N.eq N.is_clone }
-    requires graph { (next : N → List N) × (starts : List N)
-        × ExploresHops N.eq S.answers starts next graph.old }
-
-    ensures best { (next : N → List N) (starts : List N)
-        → ExploresHops N.eq S.answers starts next graph.old
-        → HasSameNodes N.eq graph.old.nodes.keys starts → IfOk result (IsBestLoopOrNone N.eq next starts) }
-
-    ensures errors { IfErr result (λ e. e ≡ PathError.OutOfMemory) }
-{
-    match fewest_edges_loop::<u8, _, _>(alloc, graph)? {
-        None => Ok(None),
-        Some(numbers) => clones_at(alloc, graph.nodes.as_slice(), &numbers).map(Some),
-    }
-}
 
 /// A walk of at least one step, with fewest edges, from one of the `starts` to one of them, or `None`
 /// exactly where there is no such walk.

@@ -1,29 +1,28 @@
-use Rattle.std.proofs.Common.{rules, ap, ◌∷◌, []}
-use Rattle.std.proofs.lemmas.Iterator.Consumers.{YieldsList-from_first}
-use Rattle.pf_base.proofs.Callers.{nat_test}
-use Rattle.pf_base.proofs.Sources.{gives_chain}
+use Rattle.std.proofs.Common.{◌∷◌, [], refl, inl}
+use Rattle.std.proofs.lemmas.Result.{IfOk-from_err}
+use Rattle.pf_base.proofs.Outcomes.{no_overflow, refused_as}
 use Rattle.pf_tables.specs.Graphs.{graph_of}
 use Rattle.pf_tables.proofs.GraphLemmas.{no_negative_cost}
-use Rattle.pf_table_functions.proofs.EdgeLemmas.{table_graph}
+use Rattle.pf_table_functions.proofs.TableExplores.{table_edges, one_distinct, same_nodes, first_stands}
 use Rattle.pf_table_searches.proofs.parents.dijkstra_partial.Goals as goal
 
-pub dijkstra_partial-requires-clause-graph : goal.dijkstra_partial-requires-clause-graph
-dijkstra_partial-requires-clause-graph g c =
-    let size = g.G.Graph.size c.args.graph.now in
-    let places = g.G.Graph.places c.args.graph.now in (
-      graph_of g.C.Number.value size places,
+pub partial_map-requires-clause-graph : goal.partial_map-requires-clause-graph
+partial_map-requires-clause-graph g c =
+    let value = g.C.Number.value in
+    let table = c.args.graph.now in
+    let from = c.args.from in
+    let starts = from ∷ [] in (
+      graph_of value (g.G.Graph.size table) (g.G.Graph.places table),
+      from,
       g.T.Goals.passes c.args.goals,
-      record {
-        edges_answered = table_graph g.C.Number.value size places (λ x w. tt)
-            (λ x r t w k. (ap (λ (q : _). (q, record {})) k.met.1, gives_chain (λ it b. (tt, tt, YieldsList-from_first (λ e. e) (λ es. es) _ (search rules)))));
-        test_answered = nat_test (g.T.Goals.passes c.args.goals) (λ x w. tt) (λ x r t w k. (ap (λ (q : _). record { 0 = q }) k.met.1, search rules));
-        costs = no_negative_cost g.C.Number.value size places c.known.ensures (c.args.from ∷ []);
-      },
+      rw (c.edge_discovery.ensures, c.in_ok-begin.ensures.one, c.new.ensures)
+          (record { begins = first_stands from; explores = table_edges value g.G.Graph.size g.G.Graph.places table starts starts (one_distinct from) (same_nodes starts); tested = refl }),
+      no_negative_cost value (g.G.Graph.size table) (g.G.Graph.places table) c.known.ensures starts,
     )
 
 pub returns : goal.returns
-unfolding dijkstra_partial-requires-clause-graph
+unfolding partial_map-requires-clause-graph
 returns g c =
-    let p = dijkstra_partial-requires-clause-graph g c.before in
-    let e = c.dijkstra_partial.ensures in
-    record { partial = e.partial p.0 p.1 p.2; overflow = e.overflow p.0 p.1 p.2; errors = e.errors }
+    let p = partial_map-requires-clause-graph g c.before.before.before.before in
+    let e = c.partial_map.ensures in
+    record { partial = e.partial p.0 p.1 p.2 p.3 p.4; overflow = e.overflow p.0 p.1 p.2 p.3 p.4; errors = e.errors }

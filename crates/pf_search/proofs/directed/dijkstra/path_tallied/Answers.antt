@@ -41,7 +41,7 @@ returns-in-None g c = record {
   asked = λ edges start test s.
       let h = tested start edges test in
       let y = c.in_ok-cheapest_path.ensures.graph h (s.explores, s.tested) in
-      at_most g.N.PartialEq.eq g.met.N.Eq.laws _ c.cheapest_path.new.graph.discovery.nodes.keys y.0.distinct y.0.reached _ _ c.in_ok-cheapest_path.ensures.asked;
+      at_most g.N.PartialEq.eq g.met.N.Eq.laws _ (g.M.Numbering.keys c.cheapest_path.new.graph.discovery.nodes) y.0.distinct y.0.reached _ _ c.in_ok-cheapest_path.ensures.asked;
   errors = tt;
   ticked = c.in_ok-cheapest_path.ensures.ticked;
   overflow = λ _ _ _ _ _ e. absurd (ok_is_no_error _ _ _ refl e);
@@ -55,14 +55,14 @@ returns-in_ok-path-in-Some g c = record {
       let laws = g.met.N.Eq.laws in
       let h = tested start edges test in
       let x = s.explores in
-      let keys = c.cheapest_path.new.graph.discovery.nodes.keys in
+      let keys = g.M.Numbering.keys c.cheapest_path.new.graph.discovery.nodes in
       let y = c.in_ok-cheapest_path.ensures.graph h (x, t) in
       let b = when_some _ _ _ _ c.in-Some.is (c.in_ok-cheapest_path.ensures.best h (x, t) (no_negative eq laws h.graph x.alike costs)) in
       best_answer eq laws h.graph x.alike _ (all_starts eq start _ s.begins) (only_starts eq start _ s.begins) test (g.met.T.NodeTest.alike_law c.args.graph.now.success (along_edges (start ∷ []) edges) test t) keys (StandsFor-one eq laws keys y.0.distinct) c.in-Some.numbers.items c.in_ok-path-in-Some.path.items (g.C.Number.value c.in-Some.cost) b (subst (λ (ks : List ℕ). AllZip (StandsFor eq keys) ks c.in_ok-path-in-Some.path.items) c.deref.ensures.value c.in_ok-path-in-Some.ensures.nodes);
   asked = λ edges start test s.
       let h = tested start edges test in
       let y = c.in_ok-cheapest_path.ensures.graph h (s.explores, s.tested) in
-      at_most g.N.PartialEq.eq g.met.N.Eq.laws _ c.cheapest_path.new.graph.discovery.nodes.keys y.0.distinct y.0.reached _ _ c.in_ok-cheapest_path.ensures.asked;
+      at_most g.N.PartialEq.eq g.met.N.Eq.laws _ (g.M.Numbering.keys c.cheapest_path.new.graph.discovery.nodes) y.0.distinct y.0.reached _ _ c.in_ok-cheapest_path.ensures.asked;
   errors = tt;
   ticked = c.in_ok-cheapest_path.ensures.ticked;
   overflow = λ _ _ _ _ _ e. absurd (ok_is_no_error _ _ _ refl e);
@@ -76,7 +76,7 @@ returns-in_err-cheapest_path g c = record {
       let laws = g.met.N.Eq.laws in
       let h = tested start edges test in
       let x = s.explores in
-      let keys = c.cheapest_path.new.graph.discovery.nodes.keys in
+      let keys = g.M.Numbering.keys c.cheapest_path.new.graph.discovery.nodes in
       let y = c.in_err-cheapest_path.ensures.graph h (x, t) in
       let f : c.in_err-cheapest_path.field-0.0 ≡ CostOverflow = overflow_kept c.from_residual.result c.in_err-cheapest_path.field-0.0 c.from_residual.ensures.1 e in
       let d = c.in_err-cheapest_path.ensures.overflow h (x, t) (no_negative eq laws h.graph x.alike costs) (ap Err f) in
@@ -84,7 +84,7 @@ returns-in_err-cheapest_path g c = record {
   asked = λ edges start test s.
       let h = tested start edges test in
       let y = c.in_err-cheapest_path.ensures.graph h (s.explores, s.tested) in
-      at_most g.N.PartialEq.eq g.met.N.Eq.laws _ c.cheapest_path.new.graph.discovery.nodes.keys y.0.distinct y.0.reached _ _ c.in_err-cheapest_path.ensures.asked;
+      at_most g.N.PartialEq.eq g.met.N.Eq.laws _ (g.M.Numbering.keys c.cheapest_path.new.graph.discovery.nodes) y.0.distinct y.0.reached _ _ c.in_err-cheapest_path.ensures.asked;
   best = λ _ _ _ _ _. IfOk-from_err _ _ c.from_residual.ensures.0;
   ticked = c.in_err-cheapest_path.ensures.ticked;
   errors = refused_as _ c.from_residual.result c.in_err-cheapest_path.field-0.0 c.from_residual.ensures.1 c.in_err-cheapest_path.ensures.errors;
@@ -95,7 +95,7 @@ returns-in_err-path-in-Some g c = record {
   asked = λ edges start test s.
       let h = tested start edges test in
       let y = c.in_ok-cheapest_path.ensures.graph h (s.explores, s.tested) in
-      at_most g.N.PartialEq.eq g.met.N.Eq.laws _ c.cheapest_path.new.graph.discovery.nodes.keys y.0.distinct y.0.reached _ _ c.in_ok-cheapest_path.ensures.asked;
+      at_most g.N.PartialEq.eq g.met.N.Eq.laws _ (g.M.Numbering.keys c.cheapest_path.new.graph.discovery.nodes) y.0.distinct y.0.reached _ _ c.in_ok-cheapest_path.ensures.asked;
   best = λ _ _ _ _ _. IfOk-from_err _ _ c.from_residual-in_err-path-in-Some.ensures.0;
   ticked = c.in_ok-cheapest_path.ensures.ticked;
   errors = refused_as (λ e. (e ≡ OutOfMemory) ⊎ (e ≡ CostOverflow)) c.from_residual-in_err-path-in-Some.result c.in_err-path-in-Some.field-0.0 c.from_residual-in_err-path-in-Some.ensures.1 (inl c.in_err-path-in-Some.ensures.refused);

@@ -2,7 +2,7 @@ use Rattle.std.proofs.Common.{◌≡◌, ◌∙◌, pos, false, inl, refl}
 use Rattle.pf_core.specs.declared.labels.Label.{Label}
 use Rattle.pf_both_ends.proofs.BothEndsTurns.{ends_begun}
 use Rattle.pf_base.proofs.Outcomes.{if_refused, no_overflow, refused_as}
-use Rattle.pf_both_ends.proofs.dijkstra.path_between.Goals as goal
+use Rattle.pf_both_ends.proofs.discovered.cheapest_path.Goals as goal
 
 pub returns-in_err-forth-clause-best : goal.returns-in_err-forth-clause-best
 returns-in_err-forth-clause-best g c = λ edges previous start end x y ends. (

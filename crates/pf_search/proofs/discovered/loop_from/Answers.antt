@@ -6,13 +6,13 @@ use Rattle.pf_core.specs.Hops.{hops_from}
 use Rattle.pf_base.proofs.Outcomes.{refused_as}
 use Rattle.pf_discovery.proofs.ResultLemmas.{in_some, error_kept}
 use Rattle.std.proofs.lemmas.Result.{IfOk-from_err}
-use Rattle.pf_search.proofs.directed.bfs.loops.loop_from.Goals as goal
+use Rattle.pf_search.proofs.discovered.loop_from.Goals as goal
 
 pub fewest_edges_loop-requires-clause-graph : goal.fewest_edges_loop-requires-clause-graph
 fewest_edges_loop-requires-clause-graph g c = let r = c.requires.graph in (hops_from r.1 r.0, r.2)
 
 pub fewest_edges_loop-requires-clause-begins : goal.fewest_edges_loop-requires-clause-begins
-fewest_edges_loop-requires-clause-begins g c = λ k l. begins_all g.N.PartialEq.eq g.met.N.Eq.laws c.args.graph.now.nodes.keys k l
+fewest_edges_loop-requires-clause-begins g c = λ k l. begins_all g.N.PartialEq.eq g.met.N.Eq.laws (g.M.Numbering.keys c.args.graph.now.nodes) k l
 
 pub clones_at-requires-clause-inside : goal.clones_at-requires-clause-inside
 clones_at-requires-clause-inside g c = λ k h. subst (λ (n : ℕ). k < n) (ap length (sym c.as_slice.ensures.keys)) ((rw c.in-Some.is at c.in_ok-fewest_edges_loop.ensures.inside) k (rw c.deref.ensures.value at h))
@@ -22,8 +22,8 @@ returns-in-Some g c = record {
   best = λ next starts x same.
       let eq = g.N.PartialEq.eq in
       let laws = g.met.N.Eq.laws in
-      let begins = starts_stand eq laws starts c.args.graph.now.nodes.keys same in
-      let keys = c.fewest_edges_loop.new.graph.nodes.keys in
+      let begins = starts_stand eq laws starts (g.M.Numbering.keys c.args.graph.now.nodes) same in
+      let keys = g.M.Numbering.keys c.fewest_edges_loop.new.graph.nodes in
       let y = c.in_ok-fewest_edges_loop.ensures.graph (hops_from starts next) x in
       let b = rw c.in-Some.is at (c.in_ok-fewest_edges_loop.ensures.best (hops_from starts next) x (is_hop eq starts next)) in
       in_some c.clones_at.result c.map.result c.map.ensures.cases _ _
@@ -41,7 +41,7 @@ returns-in-None g c = record {
   best = λ next starts x same.
       let eq = g.N.PartialEq.eq in
       let laws = g.met.N.Eq.laws in
-      let begins = starts_stand eq laws starts c.args.graph.now.nodes.keys same in
+      let begins = starts_stand eq laws starts (g.M.Numbering.keys c.args.graph.now.nodes) same in
       no_loop eq laws starts next x.alike _ (λ s. (begins s).1) (λ s. (begins s).0)
       (rw c.in-None.is at (c.in_ok-fewest_edges_loop.ensures.best (hops_from starts next) x (is_hop eq starts next)));
   errors = tt;

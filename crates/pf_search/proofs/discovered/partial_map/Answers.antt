@@ -12,11 +12,11 @@ use Rattle.pf_discovery.proofs.StillLemmas.{read_at, read_inside}
 use Rattle.pf_base.proofs.Outcomes.{if_refused, memory_no_overflow, no_memory_or, no_overflow, ok_is_no_error, overflow_kept, refused_as}
 use Rattle.pf_core.proofs.WalkLemmas.{all_starts, only_starts, no_negative, cost_overflows}
 use Rattle.pf_search.proofs.PartialLemmas.{parent_inside, reached_at, begins_on, maps_read, whole_map, stopped_map}
-use Rattle.pf_search.proofs.directed.dijkstra_all.partial_map.Goals.{in-Some+in_ok-clone-in-Some, in-None}
+use Rattle.pf_search.proofs.discovered.partial_map.Goals.{in-Some+in_ok-clone-in-Some, in-None}
 use Rattle.pf_discovery.proofs.ResultLemmas.{when_none}
 use Rattle.pf_core.proofs.SearchedLemmas.{is_least}
 use Rattle.std.proofs.lemmas.Result.{IfOk-from_err}
-use Rattle.pf_search.proofs.directed.dijkstra_all.partial_map.Goals as goal
+use Rattle.pf_search.proofs.discovered.partial_map.Goals as goal
 
 -- the graph that these functions answer
 abbrev tested : {N : Type 0} → N → (N → List (N × ℤ)) → (N → Bool) → TestedGraph N
@@ -38,7 +38,7 @@ returns-in_err-labels g c = record {
       let laws = g.met.N.Eq.laws in
       let h = tested start edges test in
       let x = s.explores in
-      let keys = c.search_to_goal.new.graph.discovery.nodes.keys in
+      let keys = g.M.Numbering.keys c.search_to_goal.new.graph.discovery.nodes in
       let y = c.in_err-labels.ensures.graph h (x, t) in
       let f : c.in_err-labels.field-0.0 ≡ CostOverflow = overflow_kept c.from_residual.result c.in_err-labels.field-0.0 c.from_residual.ensures.1 e in
       let d = c.in_err-labels.ensures.overflow h (x, t) (no_negative eq laws h.graph x.alike costs) (ap Err f) in
@@ -64,12 +64,12 @@ map_of-requires-clause-behind g c =
     let laws = g.met.N.Eq.laws in
     let h = tested start r.0 r.2 in
     let x = s.explores in
-    let keys = c.search_to_goal.new.graph.discovery.nodes.keys in
+    let keys = g.M.Numbering.keys c.search_to_goal.new.graph.discovery.nodes in
     let e = c.in_ok-labels.ensures in
     let y = e.graph h (x, s.tested) in
     let labels = c.in_ok-labels.labels.items in
     λ k l positive at.
-    let inside = parent_inside eq laws g.C.Number.value r.0 start x.alike costs keys (StandsFor-one eq laws keys y.0.distinct) (reached_at eq laws r.0 start keys y.0.reached) (begins_on eq start c.args.graph.now.discovery.nodes.keys keys c.requires.one e.grows s.begins)
+    let inside = parent_inside eq laws g.C.Number.value r.0 start x.alike costs keys (StandsFor-one eq laws keys y.0.distinct) (reached_at eq laws r.0 start keys y.0.reached) (begins_on eq start (g.M.Numbering.keys c.args.graph.now.discovery.nodes) keys c.requires.one e.grows s.begins)
     labels e.tree (e.searched h (x, s.tested) (no_negative eq laws h.graph x.alike costs)).search k l (subst (λ (ls : Labels g.row.C.Denot). HasLabel ls k l) c.deref.ensures.value at) positive in
     omega (arith, inside, ap length c.as_slice-nodes.ensures.keys, e.wide)
 
@@ -93,14 +93,14 @@ returns g c = record {
       let laws = g.met.N.Eq.laws in
       let h = tested start edges test in
       let x = s.explores in
-      let keys = c.search_to_goal.new.graph.discovery.nodes.keys in
+      let keys = g.M.Numbering.keys c.search_to_goal.new.graph.discovery.nodes in
       let e = c.in_ok-labels.ensures in
       let y = e.graph h (x, t) in
       let labels = c.in_ok-labels.labels.items in
       let searched = e.searched h (x, t) (no_negative eq laws h.graph x.alike costs) in
       let one = StandsFor-one eq laws keys y.0.distinct in
       let reached = reached_at eq laws edges start keys y.0.reached in
-      let begins = begins_on eq start c.args.graph.now.discovery.nodes.keys keys c.requires.one e.grows s.begins in
+      let begins = begins_on eq start (g.M.Numbering.keys c.args.graph.now.discovery.nodes) keys c.requires.one e.grows s.begins in
       let maps = maps_read eq c.as_slice-nodes.result.now keys _ labels _ c.as_slice-nodes.ensures.keys c.deref.ensures.value c.in_ok-parents.ensures.maps in
       elim c.match-goal.branch [
         | in-Some+in_ok-clone-in-Some w ↦

@@ -1,7 +1,7 @@
 use Rattle.std.proofs.Common.{◌<◌}
 use Rattle.std.specs.HashMap.{get}
 use Rattle.pf_search.specs.Internal.Partial.{MapsLabels}
-use Rattle.pf_search.proofs.directed.dijkstra_all.map_of.Given as goal
+use Rattle.pf_search.proofs.discovered.map_of.Given as goal
 
 -- the labels so far
 abbrev pub invariant-numbers : goal.invariant-numbers

@@ -4,8 +4,8 @@ use Rattle.std.proofs.lemmas.Result.{IfOk-from_err}
 use Rattle.pf_core.proofs.LabelLemmas.{HasLabel-inside}
 use Rattle.pf_base.proofs.ListLemmas.{at_place}
 use Rattle.pf_search.proofs.MapLemmas.{label_read, label_none, maps_none, maps_same, maps_more, maps_whole}
-use Rattle.pf_search.proofs.directed.dijkstra_all.map_of.Goals.{in-Some+in_ok-parent+in_ok-node+in_ok-insert, in_default}
-use Rattle.pf_search.proofs.directed.dijkstra_all.map_of.Goals as goal
+use Rattle.pf_search.proofs.discovered.map_of.Goals.{in-Some+in_ok-parent+in_ok-node+in_ok-insert, in_default}
+use Rattle.pf_search.proofs.discovered.map_of.Goals as goal
 
 pub bounds-nodes-label : goal.bounds-nodes-label
 bounds-nodes-label g c = c.requires.behind c.numbers.number c.in-Some.label c.numbers.invariant.positive (label_read c.args.labels.now c.numbers.number c.index-labels-number.result c.label.result c.in-Some.label c.numbers-test.true c.index-labels-number.is c.label.ensures c.in-Some.is)
