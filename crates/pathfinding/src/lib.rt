@@ -15,5 +15,5 @@ pub mod utils;
 
 pub use pf_assignment::kuhn_munkres;
 pub use pf_base::{cost, error};
+pub use pf_node_refs::{NodeRefs, noderefs};
 pub use pf_routes::routes;
-pub use pf_utils::{NodeRefs, noderefs};

@@ -10,7 +10,7 @@ use pf_base::{PathError, SuccessorFunction};
 use pf_discovery::discovery::{Discovery, clones_of};
 use pf_discovery::source::Unweighted;
 use pf_two_sided::two_sided::TwoSided;
-use pf_utils::NodeRefs;
+use pf_node_refs::NodeRefs;
 use std::alloc::Allocator;
 use std::hash::Hash;
 
@@ -59,13 +59,13 @@ where
     ensures errors { IfErr result (λ e. e ≡ PathError.OutOfMemory) }
 {
     let forth = Discovery {
-        nodes: clones_of(alloc, starts)?,
+        nodes: clones_of(alloc, starts.as_slice())?,
         source: Unweighted {
             function: successors,
         },
     };
     let back = Discovery {
-        nodes: clones_of(alloc, ends)?,
+        nodes: clones_of(alloc, ends.as_slice())?,
         source: Unweighted {
             function: predecessors,
         },

@@ -9,7 +9,7 @@ use pf_base::{Cost, PathError};
 use pf_edge_lists::EdgeList;
 use pf_name_numbers::numbers::number_or_next;
 use pf_name_numbers::paths::named_path;
-use pf_utils::NodeRefs;
+use pf_node_refs::NodeRefs;
 use std::alloc::Allocator;
 use std::hash::Hash;
 

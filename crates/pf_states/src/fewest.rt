@@ -8,7 +8,7 @@ ghost use Rattle.pf_state_spaces.specs.StateSpaces.{successors_by};
 use pf_base::{Cost, PathError};
 use pf_state_spaces::moves::successors_of;
 use pf_state_spaces::{Exact, StateGoal, StateSpace};
-use pf_utils::NodeRefs;
+use pf_node_refs::NodeRefs;
 use std::alloc::Allocator;
 use std::hash::Hash;
 

@@ -14,7 +14,7 @@ use pf_table_functions::discovery::hop_discovery;
 use pf_table_functions::edges::ends_of;
 use pf_table_functions::table_nodes::TableNodes;
 use pf_tables::Graph;
-use pf_utils::NodeRefs;
+use pf_node_refs::NodeRefs;
 use std::alloc::Allocator;
 
 /// These nodes of a table with `size` nodes, each once, or `None` where one of them is no node of it.

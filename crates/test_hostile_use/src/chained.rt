@@ -10,7 +10,7 @@ use crate::plain::{Lists, PlainCall, plain};
 use pf_base::PathError;
 use pf_both_ends::{bfs_bidirectional, dijkstra_bidirectional};
 use pf_components::connected_components::{SetIn, connected_components};
-use pf_utils::NodeRefs;
+use pf_node_refs::NodeRefs;
 use std::alloc::Global;
 
 /// The number after a number, where `back` comes after 0.

@@ -14,7 +14,7 @@ use pf_orders::directed::topological_sort::topological_sort;
 use pf_search::directed::bfs::{bfs, bfs_loop, bfs_reach};
 use pf_search::directed::dfs::{dfs, dfs_reach};
 use pf_search::directed::iddfs::iddfs;
-use pf_utils::NodeRefs;
+use pf_node_refs::NodeRefs;
 use std::alloc::Global;
 use std::hash::Hash;
 

@@ -2,7 +2,7 @@
 
 use crate::fewest::{Found, Heap};
 use pf_both_ends::bfs_bidirectional;
-use pf_utils::NodeRefs;
+use pf_node_refs::NodeRefs;
 use test_edge_lists::{nodes_after, nodes_before};
 
 /// A path with fewest edges from one of the starts to one of the ends.

@@ -11,7 +11,7 @@ use num_traits::Number;
 use pf_base::PathError;
 use pf_search::directed::bfs::bfs;
 use pf_search::directed::dijkstra::dijkstra;
-use pf_utils::NodeRefs;
+use pf_node_refs::NodeRefs;
 use std::alloc::Global;
 
 /// Whether no offset is above the next one, nor above `end`.

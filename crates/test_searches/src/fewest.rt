@@ -3,7 +3,7 @@
 use pf_base::PathError;
 use pf_search::directed::bfs::bfs;
 use pf_search::directed::iddfs::iddfs;
-use pf_utils::NodeRefs;
+use pf_node_refs::NodeRefs;
 use std::alloc::Global;
 use test_allocator::Refusing;
 use test_edge_lists::nodes_after;

@@ -9,7 +9,8 @@ use num_traits::Number;
 use pf_base::PathError;
 use pf_search::directed::bfs::bfs;
 use pf_search::directed::dijkstra::dijkstra;
-use pf_utils::{NodeRefs, move_in_direction};
+use pf_node_refs::NodeRefs;
+use pf_utils::move_in_direction;
 use std::alloc::Global;
 
 /// The cell that a step leads to, with its height, where it is on the board and at most as high as

@@ -8,7 +8,7 @@ ghost use Rattle.test_searches.specs.Moves.{moves_from};
 use pf_base::PathError;
 #[cfg(test)]
 use pf_search::directed::bfs::bfs;
-use pf_utils::NodeRefs;
+use pf_node_refs::NodeRefs;
 #[cfg(test)]
 use std::alloc::Global;
 

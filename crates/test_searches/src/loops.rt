@@ -2,7 +2,7 @@
 
 use crate::fewest::{Found, Heap};
 use pf_search::directed::bfs::bfs_loop;
-use pf_utils::NodeRefs;
+use pf_node_refs::NodeRefs;
 use test_edge_lists::nodes_after;
 
 /// A loop with fewest edges from one of the starts to one of them.

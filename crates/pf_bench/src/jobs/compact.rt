@@ -14,7 +14,7 @@ use pf_table_orders::{
 use pf_table_paths::yen;
 use pf_table_searches::{bfs_loop, dfs, dijkstra_all, dijkstra_reach};
 use pf_tables::{CompactRows, Graph, dijkstra};
-use pf_utils::NodeRefs;
+use pf_node_refs::NodeRefs;
 use std::alloc::Global;
 
 /// A search or an order over rows in compact form.

@@ -10,7 +10,7 @@ use pf_base::PathError;
 use pf_search::directed::bfs::bfs_loop;
 use pf_search::directed::dfs::dfs;
 use pf_search::directed::dijkstra::{dijkstra, dijkstra_all, dijkstra_reach};
-use pf_utils::NodeRefs;
+use pf_node_refs::NodeRefs;
 use pf_yen::directed::yen::yen;
 use std::alloc::Global;
 

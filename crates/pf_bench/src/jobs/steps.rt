@@ -9,7 +9,7 @@ use pf_both_ends::bfs_bidirectional;
 use pf_search::directed::bfs::{bfs, bfs_reach};
 use pf_search::directed::dfs::dfs_reach;
 use pf_search::directed::iddfs::iddfs;
-use pf_utils::NodeRefs;
+use pf_node_refs::NodeRefs;
 use std::alloc::Global;
 
 /// A search on a board whose steps have no costs.

@@ -17,7 +17,7 @@ use pf_core::bfs::fewest_edges_path;
 use pf_discovery::discovery::{Discovery, clones_of};
 use pf_discovery::source::{EdgeSource, Unweighted};
 use pf_discovery::tested::Tested;
-use pf_utils::NodeRefs;
+use pf_node_refs::NodeRefs;
 use std::alloc::Allocator;
 use std::hash::Hash;
 
@@ -88,7 +88,7 @@ where
     ensures errors { IfErr result (λ e. e ≡ PathError.OutOfMemory) }
 {
     let discovery = Discovery {
-        nodes: clones_of(alloc, starts)?,
+        nodes: clones_of(alloc, starts.as_slice())?,
         source: Unweighted {
             function: successors,
         },

@@ -14,7 +14,7 @@ use pf_table_orders::{
 };
 use pf_table_searches::bfs_loop;
 use pf_tables::Rows;
-use pf_utils::NodeRefs;
+use pf_node_refs::NodeRefs;
 use std::alloc::Global;
 
 /// The nodes after each of sixteen nodes.

@@ -20,7 +20,7 @@ use pf_table_searches::{
     bfs_loop, bfs_reach, dfs, dfs_reach, dijkstra_all, dijkstra_partial, dijkstra_reach,
 };
 use pf_tables::{CompactRows, Graph, dijkstra};
-use pf_utils::NodeRefs;
+use pf_node_refs::NodeRefs;
 use std::alloc::Global;
 
 /// The edges of the numbers from 0 to `last`, where memory is left: 0 has none, and each other one has

@@ -2,7 +2,7 @@
 
 use crate::compact::{cheapest_in_compact, fewest_in_compact, is_compact};
 use crate::tests::answers::{is_cheapest, is_path};
-use pf_utils::NodeRefs;
+use pf_node_refs::NodeRefs;
 
 /// Where the edges of each of the nodes 0 to 4 begin, and where the last ones end.
 const OFFSETS: &[usize] = &[0, 2, 4, 6, 7, 7];

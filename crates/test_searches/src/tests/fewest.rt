@@ -3,7 +3,7 @@
 use crate::both_ends::fewest_between_in_pairs;
 use crate::fewest::{Found, deepened_in_pairs, fewest_in_pairs};
 use crate::tests::answers::is_path;
-use pf_utils::NodeRefs;
+use pf_node_refs::NodeRefs;
 use std::alloc::{AllocError, Global};
 use test_allocator::Refusing;
 

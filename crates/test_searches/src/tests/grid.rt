@@ -2,7 +2,7 @@
 
 use crate::grid::{cheapest_on_board, fewest_on_board};
 use crate::tests::answers::{is_cheapest, is_path};
-use pf_utils::NodeRefs;
+use pf_node_refs::NodeRefs;
 
 /// A board of three rows. The hill in the middle is above the bound, and the way to the right is dearer.
 const HEIGHTS: &[u8] = &[1, 1, 9, 1, 200, 9, 1, 1, 1];

@@ -2,7 +2,7 @@
 
 use crate::loops::loop_in_pairs;
 use crate::tests::answers::is_path;
-use pf_utils::NodeRefs;
+use pf_node_refs::NodeRefs;
 use std::alloc::Global;
 use test_allocator::Refusing;
 

@@ -2,7 +2,7 @@
 
 use crate::fewest::Heap;
 use crate::no_case::NoCase;
-use pf_utils::NodeRefs;
+use pf_node_refs::NodeRefs;
 use std::alloc::Global;
 use test_allocator::Refusing;
 

@@ -14,7 +14,7 @@ use pf_base::PathError;
 use pf_edge_lists::{EdgeList, EdgeListError};
 use pf_table_breadth::bfs;
 use pf_tables::{Rows, dijkstra};
-use pf_utils::NodeRefs;
+use pf_node_refs::NodeRefs;
 use std::alloc::Global;
 use std::process::Abort;
 use test_allocator::Refusing;

@@ -7,7 +7,7 @@ use crate::reach::{Given, given_in_rows};
 use crate::rows::{cheapest_in_rows, fewest_in_rows, leads_to_rows};
 use crate::tests::answers::{is_cheapest, is_path};
 use pf_base::PathError;
-use pf_utils::NodeRefs;
+use pf_node_refs::NodeRefs;
 use std::alloc::{AllocError, Global};
 
 /// A table of these rows.

@@ -16,8 +16,8 @@ fewest_edges_path-requires-clause-graph g c =
       r.1,
       starts,
       ends,
-      Explores-successors_of eq laws _ _ _ _ _ starts found.field-0.keys r.0 _ found.ensures.distinct found.ensures.same r.2.successors_answered,
-      Explores-successors_of eq laws _ _ _ _ _ ends found_back.field-0.keys r.1 _ found_back.ensures.distinct found_back.ensures.same r.2.predecessors_answered,
+      Explores-successors_of eq laws _ _ _ _ _ starts found.field-0.keys r.0 _ found.ensures.distinct (rw c.as_slice.ensures.nodes at found.ensures.same) r.2.successors_answered,
+      Explores-successors_of eq laws _ _ _ _ _ ends found_back.field-0.keys r.1 _ found_back.ensures.distinct (rw c.as_slice-2.ensures.nodes at found_back.ensures.same) r.2.predecessors_answered,
     )
 
 pub fewest_edges_path-requires-clause-clones : goal.fewest_edges_path-requires-clause-clones
@@ -44,8 +44,8 @@ returns g c = record {
       let ends = c.args.ends.now in
       let found = c.in_ok-clones_of in
       let found_back = c.in_ok-clones_of-2 in
-      let x = Explores-successors_of eq laws _ _ _ _ _ starts found.field-0.keys next _ found.ensures.distinct found.ensures.same s.successors_answered in
-      let y = Explores-successors_of eq laws _ _ _ _ _ ends found_back.field-0.keys previous _ found_back.ensures.distinct found_back.ensures.same s.predecessors_answered in
-      c.fewest_edges_path.ensures.best next previous starts ends x y found.ensures.same found_back.ensures.same s.mirror;
+      let x = Explores-successors_of eq laws _ _ _ _ _ starts found.field-0.keys next _ found.ensures.distinct (rw c.as_slice.ensures.nodes at found.ensures.same) s.successors_answered in
+      let y = Explores-successors_of eq laws _ _ _ _ _ ends found_back.field-0.keys previous _ found_back.ensures.distinct (rw c.as_slice-2.ensures.nodes at found_back.ensures.same) s.predecessors_answered in
+      c.fewest_edges_path.ensures.best next previous starts ends x y (rw c.as_slice.ensures.nodes at found.ensures.same) (rw c.as_slice-2.ensures.nodes at found_back.ensures.same) s.mirror;
   errors = c.fewest_edges_path.ensures.errors;
 }

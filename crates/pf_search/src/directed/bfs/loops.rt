@@ -9,7 +9,7 @@ use crate::discovered::loop_from;
 use pf_base::{PathError, SuccessorFunction};
 use pf_discovery::discovery::{Discovery, clones_of};
 use pf_discovery::source::Unweighted;
-use pf_utils::NodeRefs;
+use pf_node_refs::NodeRefs;
 use std::alloc::Allocator;
 use std::hash::Hash;
 
@@ -51,7 +51,7 @@ where
     ensures errors { IfErr result (λ e. e ≡ PathError.OutOfMemory) }
 {
     let mut graph = Discovery {
-        nodes: clones_of(alloc, starts)?,
+        nodes: clones_of(alloc, starts.as_slice())?,
         source: Unweighted {
             function: successors,
         },

@@ -10,7 +10,7 @@ path_from-requires-clause-graph g c =
     let eq = g.N.PartialEq.eq in
     let starts = c.args.starts.now in
     let found = c.in_ok-clones_of in
-    let x = Explores-successors_of eq g.met.N.Eq.laws _ _ _ _ _ starts found.field-0.keys r.0 _ found.ensures.distinct found.ensures.same r.2.successors_answered in
+    let x = Explores-successors_of eq g.met.N.Eq.laws _ _ _ _ _ starts found.field-0.keys r.0 _ found.ensures.distinct (rw c.as_slice.ensures.nodes at found.ensures.same) r.2.successors_answered in
     (r.0, starts, r.1, x, tests_in_reach eq _ starts r.0 r.1 _ r.2.test_answered)
 
 pub path_from-requires-clause-clones : goal.path_from-requires-clause-clones
@@ -28,7 +28,7 @@ returns g c = record {
       let eq = g.N.PartialEq.eq in
       let starts = c.args.starts.now in
       let found = c.in_ok-clones_of in
-      let x = Explores-successors_of eq g.met.N.Eq.laws _ _ _ _ _ starts found.field-0.keys next _ found.ensures.distinct found.ensures.same s.successors_answered in
-      c.path_from.ensures.best next starts test x (tests_in_reach eq _ starts next test _ s.test_answered) found.ensures.same;
+      let x = Explores-successors_of eq g.met.N.Eq.laws _ _ _ _ _ starts found.field-0.keys next _ found.ensures.distinct (rw c.as_slice.ensures.nodes at found.ensures.same) s.successors_answered in
+      c.path_from.ensures.best next starts test x (tests_in_reach eq _ starts next test _ s.test_answered) (rw c.as_slice.ensures.nodes at found.ensures.same);
   errors = c.path_from.ensures.errors;
 }

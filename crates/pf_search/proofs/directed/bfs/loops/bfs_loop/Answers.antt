@@ -8,7 +8,7 @@ loop_from-requires-clause-graph g c =
     let r = c.requires.graph in
     let starts = c.args.starts.now in
     let found = c.in_ok-clones_of in
-    (r.0, starts, Explores-successors_of g.N.PartialEq.eq g.met.N.Eq.laws _ _ _ _ _ starts found.field-0.keys r.0 _ found.ensures.distinct found.ensures.same r.1)
+    (r.0, starts, Explores-successors_of g.N.PartialEq.eq g.met.N.Eq.laws _ _ _ _ _ starts found.field-0.keys r.0 _ found.ensures.distinct (rw c.as_slice.ensures.nodes at found.ensures.same) r.1)
 
 pub loop_from-requires-clause-clones : goal.loop_from-requires-clause-clones
 loop_from-requires-clause-clones g c = c.requires.clones
@@ -24,6 +24,6 @@ returns g c = record {
   best = λ next a.
       let starts = c.args.starts.now in
       let found = c.in_ok-clones_of in
-      c.loop_from.ensures.best next starts (Explores-successors_of g.N.PartialEq.eq g.met.N.Eq.laws _ _ _ _ _ starts found.field-0.keys next _ found.ensures.distinct found.ensures.same a) found.ensures.same;
+      c.loop_from.ensures.best next starts (Explores-successors_of g.N.PartialEq.eq g.met.N.Eq.laws _ _ _ _ _ starts found.field-0.keys next _ found.ensures.distinct (rw c.as_slice.ensures.nodes at found.ensures.same) a) (rw c.as_slice.ensures.nodes at found.ensures.same);
   errors = c.loop_from.ensures.errors;
 }
