@@ -1,7 +1,7 @@
 //! Nodes that are numbered in the order in which they are put in.
 
 ghost use Rattle.std.specs.Prelude.{◌≡◌, ◌<◌, ◌^◌, ℕ, List, IfOk, IfErr, MatchOption, OnErr, length, take};
-ghost use Rattle.std.specs.List.{IsDistinct};
+ghost use Rattle.std.specs.List.{AllZip, IsDistinct};
 ghost use Rattle.pf_core.specs.Nodes.{AddsNode, StandsFor};
 
 use indexmap::IndexSet;
@@ -76,4 +76,14 @@ impl<N: Eq + Hash + Drop, A: Allocator + Copy> Numbering for Nodes<N, A> {
     fn truncate(&mut self, len: usize) {
         self.truncate(len);
     }
+}
+
+/// A numbering whose clones number clones of the nodes.
+pub trait CloneNumbering<N: Eq + Clone>: Numbering<Node = N> + Clone {
+    // The nodes of a clone are clones of the nodes, in the same order.
+    ghost clone_law: { (x y : Self) → Self.is_clone x y → AllZip N.is_clone (Self.keys x) (Self.keys y) };
+}
+
+impl<N: Eq + Hash + Clone + Drop, A: Allocator + Copy> CloneNumbering<N> for Nodes<N, A> {
+    ghost clone_law = { λ x y h. h };
 }

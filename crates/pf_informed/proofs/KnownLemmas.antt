@@ -170,9 +170,9 @@ module _ {N : Type 0} (eq : N → N → Bool) (laws : IsEquivalence eq) where
         let above = costs.cheapest (value a.1) edge in
         (a.0, n.0, a.1, a.2, n.1, omega (arith, ints, low, above, q.2))
 
-module _ {N C S T H Z : Type 0} {eq : N → N → Bool} where
-  pub more_refl : {known : Known N C S T H Z} → IsWhole known → KnowsMore eq known known
+module _ {M N C S T H Z : Type 0} {keys_of : M → List N} {eq : N → N → Bool} where
+  pub more_refl : {known : Known M C S T H Z} → IsWhole keys_of known → KnowsMore keys_of eq known known
   more_refl whole = record { whole = whole; grows = Grows-refl _ _; steps = λ i x h. h; spans = λ k s h. h }
 
-  pub more_trans : {known known' known'' : Known N C S T H Z} → KnowsMore eq known known' → KnowsMore eq known' known'' → KnowsMore eq known known''
+  pub more_trans : {known known' known'' : Known M C S T H Z} → KnowsMore keys_of eq known known' → KnowsMore keys_of eq known' known'' → KnowsMore keys_of eq known known''
   more_trans m n = record { whole = n.whole; grows = Grows-trans _ _ _ _ _ _ m.grows n.grows; steps = λ i x h. n.steps i x (m.steps i x h); spans = λ k s h. n.spans k s (m.spans k s h) }

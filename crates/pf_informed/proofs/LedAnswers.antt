@@ -8,7 +8,6 @@ use Rattle.std.proofs.lemmas.Option.{slice_get_within}
 use Rattle.pf_base.specs.Edges.{InReach, IsSuccessor, IsCheapestGoalPath}
 use Rattle.pf_base.specs.Walks.{end_of, HasNoGoalWalk}
 use Rattle.pf_core.specs.declared.labels.Label.{Label}
-use Rattle.std.specs.HashSet.{HashSet}
 use Rattle.pf_discovery.specs.declared.tested.TestedBy.{TestedBy}
 use Rattle.pf_core.specs.Labels.{Labels, HasLabel, IsChain}
 use Rattle.pf_core.specs.Nodes.{NodeGraph, StandsFor, IsStep}
@@ -31,14 +30,14 @@ use Rattle.pf_informed.proofs.InformedLemmas.{goal_above, no_goal_fits, no_goal,
 use Rattle.pf_informed.proofs.NodeWalks.{never_above, stands_reached, estimate_is, overflow_at, no_walk_fits, estimate_at}
 use Rattle.pf_informed.proofs.WiderLemmas.{all_labelled, some_unlabelled, no_label}
 
-module _ {N C S T H Z : Type 0} {eq : N → N → Bool} (laws : IsEquivalence eq) {value : C → ℤ} {edge_answers : S → List N → (N → List (N × ℤ)) → Type 0} {test_answers : T → (N → Type 0) → (N → Bool) → Type 0} {estimate_answers : H → (N → Type 0) → (N → ℤ) → Type 0}
-    {start : N} {edges : N → List (N × ℤ)} {test : N → Bool} {least : N → ℤ} {found : TestedBy (HashSet N Z) S T} {estimate : H} {kept : List C} (led : IsLed eq value edge_answers test_answers estimate_answers (record { starts = start ∷ []; edges = edges }) test least found estimate kept)
-    (asked : length kept ≡ length found.discovery.nodes.keys) (begins : StandsFor eq found.discovery.nodes.keys 0 start) where
+module _ {M N C S T H : Type 0} {keys_of : M → List N} {eq : N → N → Bool} (laws : IsEquivalence eq) {value : C → ℤ} {edge_answers : S → List N → (N → List (N × ℤ)) → Type 0} {test_answers : T → (N → Type 0) → (N → Bool) → Type 0} {estimate_answers : H → (N → Type 0) → (N → ℤ) → Type 0}
+    {start : N} {edges : N → List (N × ℤ)} {test : N → Bool} {least : N → ℤ} {found : TestedBy M S T} {estimate : H} {kept : List C} (led : IsLed keys_of eq value edge_answers test_answers estimate_answers (record { starts = start ∷ []; edges = edges }) test least found estimate kept)
+    (asked : length kept ≡ length (keys_of found.discovery.nodes)) (begins : StandsFor eq (keys_of found.discovery.nodes) 0 start) where
   abbrev graph : NodeGraph N
   graph = record { starts = start ∷ []; edges = edges }
 
   abbrev keys : List N
-  keys = found.discovery.nodes.keys
+  keys = keys_of found.discovery.nodes
 
   abbrev is_start : N → Type 0
   is_start y = eq start y ≡ true

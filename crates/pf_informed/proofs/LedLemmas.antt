@@ -11,7 +11,6 @@ use Rattle.pf_base.specs.Edges.{InReach}
 use Rattle.pf_base.specs.NodeRefs.{HasSameNodes}
 use Rattle.pf_core.specs.declared.labels.Label.{Label}
 use Rattle.pf_discovery.specs.declared.source.Weighted.{Weighted}
-use Rattle.std.specs.HashSet.{HashSet}
 use Rattle.pf_discovery.specs.declared.tested.TestedBy.{TestedBy}
 use Rattle.pf_core.specs.Labels.{Labels, HasLabel}
 use Rattle.pf_core.specs.Nodes.{NodeGraph, TestedGraph, Explores}
@@ -54,25 +53,25 @@ module _ {X C : Type 0} (value : C → ℤ) (fits : ℤ → Type 0) (step : X �
     ];
   }
 
-module _ {N C S T H Z : Type 0} {eq : N → N → Bool} {value : C → ℤ} {edge_answers : S → List N → (N → List (N × ℤ)) → Type 0} {test_answers : T → (N → Type 0) → (N → Bool) → Type 0} {estimate_answers : H → (N → Type 0) → (N → ℤ) → Type 0}
-    {g : NodeGraph N} {test : N → Bool} {least : N → ℤ} {graph : TestedBy (HashSet N Z) S T} {estimate : H} {kept : List C} (led : IsLed eq value edge_answers test_answers estimate_answers g test least graph estimate kept) where
+module _ {M N C S T H : Type 0} {keys_of : M → List N} {eq : N → N → Bool} {value : C → ℤ} {edge_answers : S → List N → (N → List (N × ℤ)) → Type 0} {test_answers : T → (N → Type 0) → (N → Bool) → Type 0} {estimate_answers : H → (N → Type 0) → (N → ℤ) → Type 0}
+    {g : NodeGraph N} {test : N → Bool} {least : N → ℤ} {graph : TestedBy M S T} {estimate : H} {kept : List C} (led : IsLed keys_of eq value edge_answers test_answers estimate_answers g test least graph estimate kept) where
   -- what is known of the graph, where more nodes were found
-  pub led_grown : IsEquivalence eq → length kept ≡ length graph.discovery.nodes.keys → (graph' : TestedBy (HashSet N Z) S T) → FindsMore eq graph graph' → Explores eq edge_answers g graph'.discovery.nodes.keys graph'.discovery.source → test_answers graph'.success (InReach eq g.edges g.starts) test
-      → IsLed eq value edge_answers test_answers estimate_answers g test least graph' estimate kept
+  pub led_grown : IsEquivalence eq → length kept ≡ length (keys_of graph.discovery.nodes) → (graph' : TestedBy M S T) → FindsMore keys_of eq graph graph' → Explores eq edge_answers g (keys_of graph'.discovery.nodes) graph'.discovery.source → test_answers graph'.success (InReach eq g.edges g.starts) test
+      → IsLed keys_of eq value edge_answers test_answers estimate_answers g test least graph' estimate kept
   led_grown laws wide graph' finds explores tested = record {
     explores = explores;
     tested = tested;
     same_test = led.same_test;
     asked = led.asked;
     same_estimate = led.same_estimate;
-    estimated = estimated_grown eq laws value least (InReach eq g.edges g.starts) led.same_estimate graph.discovery.nodes.keys graph'.discovery.nodes.keys led.explores.reached finds kept wide led.estimated;
+    estimated = estimated_grown eq laws value least (InReach eq g.edges g.starts) led.same_estimate (keys_of graph.discovery.nodes) (keys_of graph'.discovery.nodes) led.explores.reached finds kept wide led.estimated;
     admissible = led.admissible;
     costs = led.costs;
   }
 
   -- and where more estimates were asked for
-  pub led_more : {estimate' : H} {kept' : List C} → estimate_answers estimate' (InReach eq g.edges g.starts) least → (IsEstimated value least (slice_get graph.discovery.nodes.keys) kept → IsEstimated value least (slice_get graph.discovery.nodes.keys) kept')
-      → IsLed eq value edge_answers test_answers estimate_answers g test least graph estimate' kept'
+  pub led_more : {estimate' : H} {kept' : List C} → estimate_answers estimate' (InReach eq g.edges g.starts) least → (IsEstimated value least (slice_get (keys_of graph.discovery.nodes)) kept → IsEstimated value least (slice_get (keys_of graph.discovery.nodes)) kept')
+      → IsLed keys_of eq value edge_answers test_answers estimate_answers g test least graph estimate' kept'
   led_more asked estimated = record {
     explores = led.explores;
     tested = led.tested;
@@ -85,14 +84,14 @@ module _ {N C S T H Z : Type 0} {eq : N → N → Bool} {value : C → ℤ} {edg
   }
 
 -- what is known of the start alone
-module _ {N C I S FN FS FH Z : Type 0} {eq : N → N → Bool} (laws : IsEquivalence eq) {value : C → ℤ} {becomes : I → S → Type 0} {can : S → Type 0} {left : S → Count} {next : S → Option (N × C) → S → Type 0} {calls : Mut FN (Bor N × Unit {0}) I} {tests : Mut FS (Bor N × Unit {0}) Bool} {estimates : Mut FH (Bor N × Unit {0}) C} where
-  pub led_begin : {start : N} {edges : N → List (N × ℤ)} {test : N → Bool} {least : N → ℤ} {graph : TestedBy (HashSet N Z) (Weighted FN) FS} {estimate : FH} {kept : List C} → IsDistinct eq graph.discovery.nodes.keys → HasSameNodes eq graph.discovery.nodes.keys (start ∷ []) → kept ≡ []
+module _ {M N C I S FN FS FH : Type 0} {keys_of : M → List N} {eq : N → N → Bool} (laws : IsEquivalence eq) {value : C → ℤ} {becomes : I → S → Type 0} {can : S → Type 0} {left : S → Count} {next : S → Option (N × C) → S → Type 0} {calls : Mut FN (Bor N × Unit {0}) I} {tests : Mut FS (Bor N × Unit {0}) Bool} {estimates : Mut FH (Bor N × Unit {0}) C} where
+  pub led_begin : {start : N} {edges : N → List (N × ℤ)} {test : N → Bool} {least : N → ℤ} {graph : TestedBy M (Weighted FN) FS} {estimate : FH} {kept : List C} → IsDistinct eq (keys_of graph.discovery.nodes) → HasSameNodes eq (keys_of graph.discovery.nodes) (start ∷ []) → kept ≡ []
       → IsInformedSearch eq edges (start ∷ []) (AnswersGraph calls becomes can left next eq value graph.discovery.source.function) (AnswersTest tests eq graph.success) (AnswersEstimate estimates eq value estimate) test least
-      → IsLed eq value (AnswersEdges eq (AnswersGraph calls becomes can left next eq value)) (AnswersTest tests eq) (AnswersEstimate estimates eq value) (graph_of start edges) test least graph estimate kept
+      → IsLed keys_of eq value (AnswersEdges eq (AnswersGraph calls becomes can left next eq value)) (AnswersTest tests eq) (AnswersEstimate estimates eq value) (graph_of start edges) test least graph estimate kept
   led_begin {start} {edges} {graph = graph} {kept = kept} distinct same none s =
       let w = s.weighted in
       record {
-        explores = Explores-edges eq laws (AnswersGraph calls becomes can left next eq value) (graph_of start edges) graph.discovery.nodes.keys graph.discovery.source.function distinct same w.edges_answered.alike w.edges_answered;
+        explores = Explores-edges eq laws (AnswersGraph calls becomes can left next eq value) (graph_of start edges) (keys_of graph.discovery.nodes) graph.discovery.source.function distinct same w.edges_answered.alike w.edges_answered;
         tested = w.test_answered;
         same_test = w.test_answered.alike;
         asked = s.estimate_answered;

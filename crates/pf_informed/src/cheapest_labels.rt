@@ -19,10 +19,10 @@ use crate::turns::{begin, turn};
 use pf_base::{Cost, NodeTest, PathError};
 use pf_core::numbered::GoalGraph;
 use pf_core::slot::Slot;
+use pf_discovery::numbering::Numbering;
 use pf_discovery::source::EdgeSource;
-use pf_discovery::tested::Tested;
+use pf_discovery::tested::TestedBy;
 use std::alloc::Allocator;
-use std::hash::Hash;
 
 /// Is the least cost known, and less than this cost and estimate together?
 fn is_past<C: Cost>(best: Option<C>, cost: C, estimate: C) -> bool
@@ -89,29 +89,30 @@ fn best_with<C: Cost, G: GoalGraph<C>>(
 /// Searches from the only node that was found, with nothing known of it yet, until each number that
 /// waits is past the least cost of a walk to a goal. Goals are opened as other nodes are, so that each
 /// label is the cost of a cheapest walk. Answers the least cost, or `None` where no walk leads to a goal.
-pub(crate) fn label_cheapest<N, C, S, T, H, A>(
-    graph: &mut Tested<N, S, T, A>,
+pub(crate) fn label_cheapest<N, M, C, S, T, H, A>(
+    graph: &mut TestedBy<M, S, T>,
     estimate: &mut H,
     search: &mut Search<C, A>,
 ) -> Result<Option<C>, PathError>
 where
-    N: Eq + Hash + Drop,
+    N: Eq + Drop,
+    M: Numbering<Node = N>,
     C: Cost,
     S: EdgeSource<N, C>,
     T: NodeTest<N>,
     H: EstimateFunction<N, C>,
     A: Allocator + Copy,
-    requires one { length graph.old.discovery.nodes.keys ≡ 1 }
+    requires one { length (M.keys graph.old.discovery.nodes) ≡ 1 }
     requires new { IsNew search.old }
     requires graph { (g : NodeGraph N) × (test : N → Bool) × (least : N → ℤ)
-        × IsLed N.eq C.value S.answers T.answers H.answers g test least graph.old estimate.old search.old.estimates.items }
-    ensures wide { IfOk result (λ answer. MatchOption answer ⊤ (λ _. (length search.new.labels.items ≡ length graph.new.discovery.nodes.keys) × (0 < length search.new.labels.items))) }
-    ensures labelled { OfLedSearch N.eq C.value S.answers T.answers H.answers graph.old estimate.old search.old.estimates.items (λ start edges test least.
+        × IsLed M.keys N.eq C.value S.answers T.answers H.answers g test least graph.old estimate.old search.old.estimates.items }
+    ensures wide { IfOk result (λ answer. MatchOption answer ⊤ (λ _. (length search.new.labels.items ≡ length (M.keys graph.new.discovery.nodes)) × (0 < length search.new.labels.items))) }
+    ensures labelled { OfLedSearch M.keys N.eq C.value S.answers T.answers H.answers graph.old estimate.old search.old.estimates.items (λ start edges test least.
         IfOk result (λ answer. MatchOption answer
         (HasNoGoalWalk N.eq (IsSuccessor N.eq edges) (start ∷ []) test)
-        (λ best. IsLed N.eq C.value S.answers T.answers H.answers (record { starts = start ∷ []; edges = edges }) test least graph.new estimate.new search.new.estimates.items
-        × IsLabelled N.eq C.value edges start test graph.new.discovery.nodes.keys search.new.labels.items (C.value best)))) }
-    ensures overflow { OfLedSearch N.eq C.value S.answers T.answers H.answers graph.old estimate.old search.old.estimates.items (λ start edges test least.
+        (λ best. IsLed M.keys N.eq C.value S.answers T.answers H.answers (record { starts = start ∷ []; edges = edges }) test least graph.new estimate.new search.new.estimates.items
+        × IsLabelled N.eq C.value edges start test (M.keys graph.new.discovery.nodes) search.new.labels.items (C.value best)))) }
+    ensures overflow { OfLedSearch M.keys N.eq C.value S.answers T.answers H.answers graph.old estimate.old search.old.estimates.items (λ start edges test least.
         result ≡ Err PathError.CostOverflow → MayOverflow N.eq edges (start ∷ []) test least C.fits) }
     ensures errors { IfErr result (λ e. (e ≡ PathError.OutOfMemory) ⊎ (e ≡ PathError.CostOverflow)) }
 {

@@ -3,6 +3,7 @@
 
 mod cheapest_labels;
 pub mod directed;
+pub mod discovered;
 mod estimates;
 mod fringe_lists;
 pub mod functions;

@@ -2,9 +2,10 @@
 //! of its caller.
 #![tactic(auto)]
 
+mod guide;
 mod paths;
 mod searches;
 
-pub use crate::paths::{astar_bag, astar_bag_collect};
+pub use crate::paths::{AstarSolution, astar_bag, astar_bag_collect};
 pub use crate::searches::{astar, fringe, idastar};
 pub use pf_estimated_graphs::{BoardEstimates, EstimateError, EstimatedGraph, Estimates};

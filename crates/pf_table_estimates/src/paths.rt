@@ -5,12 +5,16 @@ ghost use Rattle.pf_informed.specs.CheapestPaths.{AreCheapestCleanPathsOrNone, l
 ghost use Rattle.pf_informed.specs.Estimates.{MayOverflow};
 ghost use Rattle.pf_tables.specs.Graphs.{graph_of};
 
+use crate::guide::{Guide, begin};
 use pf_base::{Cost, PathError};
 use pf_estimated_graphs::EstimatedGraph;
-use pf_informed::directed::astar_bag::AstarSolution;
-use pf_table_functions::edges::edges_of;
-use pf_tables::{Goals, Graph};
-use std::alloc::Allocator;
+use pf_informed::directed::astar_bag::AstarSolutionBy;
+use pf_informed::discovered::{astar_bag_collect_of, astar_bag_of};
+use pf_table_functions::table_nodes::TableNodes;
+use std::alloc::{Allocator, Global};
+
+/// All cheapest paths of a table, each as a `Result`, once: made by `astar_bag`.
+pub type AstarSolution<A = Global> = AstarSolutionBy<TableNodes<A>, A>;
 
 /// All cheapest paths from the node `from` to goals, with their cost, or `None` exactly where no walk
 /// leads from it to a goal. They are given one at a time, each once.
@@ -26,12 +30,12 @@ use std::alloc::Allocator;
 ///
 /// The algorithm is A* (P. E. Hart, N. J. Nilsson, B. Raphael, "A formal basis for the heuristic
 /// determination of minimum cost paths", 1968), followed by a walk back along all steps that keep the
-/// least costs.
+/// least costs. Nothing is hashed.
 pub fn astar_bag<C, E, A>(
     alloc: A,
     estimates: &E,
     from: usize,
-) -> Result<Option<(AstarSolution<usize, A>, C)>, PathError>
+) -> Result<Option<(AstarSolution<A>, C)>, PathError>
 where
     C: Cost,
     E: EstimatedGraph<C>,
@@ -41,15 +45,8 @@ where
     ensures overflow { result ≡ Err PathError.CostOverflow → MayOverflow nat_eq (graph_of C.value (E.size estimates.now) (E.places estimates.now)) (from ∷ []) (E.passes estimates.now) (E.estimates estimates.now) C.fits }
     ensures errors { IfErr result (λ e. (e ≡ PathError.OutOfMemory) ⊎ (e ≡ PathError.CostOverflow)) }
 {
-    estimates.consistent();
-    estimates.known();
-    pf_informed::directed::astar_bag::astar_bag(
-        alloc,
-        &from,
-        |n: &usize| edges_of(estimates, *n),
-        |n: &usize| estimates.estimate(*n),
-        |n: &usize| estimates.is_goal(*n),
-    )
+    let graph = begin(alloc, estimates, from)?;
+    astar_bag_of(alloc, graph, Guide::new(estimates))
 }
 
 /// All cheapest paths of `astar_bag`, gathered.
@@ -70,13 +67,6 @@ where
     ensures overflow { result ≡ Err PathError.CostOverflow → MayOverflow nat_eq (graph_of C.value (E.size estimates.now) (E.places estimates.now)) (from ∷ []) (E.passes estimates.now) (E.estimates estimates.now) C.fits }
     ensures errors { IfErr result (λ e. (e ≡ PathError.OutOfMemory) ⊎ (e ≡ PathError.CostOverflow)) }
 {
-    estimates.consistent();
-    estimates.known();
-    pf_informed::directed::astar_bag::astar_bag_collect(
-        alloc,
-        &from,
-        |n: &usize| edges_of(estimates, *n),
-        |n: &usize| estimates.estimate(*n),
-        |n: &usize| estimates.is_goal(*n),
-    )
+    let graph = begin(alloc, estimates, from)?;
+    astar_bag_collect_of(alloc, graph, Guide::new(estimates))
 }

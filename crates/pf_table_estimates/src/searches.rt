@@ -5,10 +5,10 @@ ghost use Rattle.pf_base.specs.Edges.{IsCheapestOrNone};
 ghost use Rattle.pf_informed.specs.Estimates.{MayOverflow};
 ghost use Rattle.pf_tables.specs.Graphs.{graph_of};
 
+use crate::guide::{Guide, begin};
 use pf_base::{Cost, PathError};
 use pf_estimated_graphs::EstimatedGraph;
-use pf_table_functions::edges::edges_of;
-use pf_tables::{Goals, Graph};
+use pf_informed::discovered::{astar_of, fringe_of, idastar_of};
 use std::alloc::Allocator;
 
 /// A cheapest path from the node `from` to a goal, with its cost, or `None` exactly where no walk leads
@@ -24,7 +24,8 @@ use std::alloc::Allocator;
 /// - `OutOfMemory`: a request for memory was refused.
 ///
 /// The algorithm is A* (P. E. Hart, N. J. Nilsson, B. Raphael, "A formal basis for the heuristic
-/// determination of minimum cost paths", 1968), with a binary heap. No edges are read twice.
+/// determination of minimum cost paths", 1968), with a binary heap. No edges are read twice,
+/// and nothing is hashed.
 pub fn astar<C, E, A>(
     alloc: A,
     estimates: &E,
@@ -38,15 +39,8 @@ where
     ensures overflow { result ≡ Err PathError.CostOverflow → MayOverflow nat_eq (graph_of C.value (E.size estimates.now) (E.places estimates.now)) (from ∷ []) (E.passes estimates.now) (E.estimates estimates.now) C.fits }
     ensures errors { IfErr result (λ e. (e ≡ PathError.OutOfMemory) ⊎ (e ≡ PathError.CostOverflow)) }
 {
-    estimates.consistent();
-    estimates.known();
-    pf_informed::directed::astar::astar(
-        alloc,
-        &from,
-        |n: &usize| edges_of(estimates, *n),
-        |n: &usize| estimates.estimate(*n),
-        |n: &usize| estimates.is_goal(*n),
-    )
+    let graph = begin(alloc, estimates, from)?;
+    astar_of(alloc, graph, Guide::new(estimates))
 }
 
 /// A cheapest path from the node `from` to a goal, with its cost, or `None` exactly where no walk leads
@@ -59,7 +53,7 @@ where
 /// - `OutOfMemory`: a request for memory was refused.
 ///
 /// The algorithm is fringe search (Y. Björnsson, M. Enzenberger, R. C. Holte, J. Schaeffer, "Fringe
-/// search: beating A* at pathfinding on game maps", 2005).
+/// search: beating A* at pathfinding on game maps", 2005). Nothing is hashed.
 pub fn fringe<C, E, A>(
     alloc: A,
     estimates: &E,
@@ -73,15 +67,8 @@ where
     ensures overflow { result ≡ Err PathError.CostOverflow → MayOverflow nat_eq (graph_of C.value (E.size estimates.now) (E.places estimates.now)) (from ∷ []) (E.passes estimates.now) (E.estimates estimates.now) C.fits }
     ensures errors { IfErr result (λ e. (e ≡ PathError.OutOfMemory) ⊎ (e ≡ PathError.CostOverflow)) }
 {
-    estimates.consistent();
-    estimates.known();
-    pf_informed::directed::fringe::fringe(
-        alloc,
-        &from,
-        |n: &usize| edges_of(estimates, *n),
-        |n: &usize| estimates.estimate(*n),
-        |n: &usize| estimates.is_goal(*n),
-    )
+    let graph = begin(alloc, estimates, from)?;
+    fringe_of(alloc, graph, Guide::new(estimates))
 }
 
 /// A cheapest path from the node `from` to a goal, with its cost, or `None` exactly where no walk leads
@@ -95,6 +82,7 @@ where
 ///
 /// The algorithm is IDA* (R. E. Korf, "Depth-first iterative-deepening: an optimal admissible tree
 /// search", 1985). Its time is of the order of the number of paths whose sums the limits admit.
+/// Nothing is hashed.
 pub fn idastar<C, E, A>(
     alloc: A,
     estimates: &E,
@@ -108,13 +96,6 @@ where
     ensures overflow { result ≡ Err PathError.CostOverflow → MayOverflow nat_eq (graph_of C.value (E.size estimates.now) (E.places estimates.now)) (from ∷ []) (E.passes estimates.now) (E.estimates estimates.now) C.fits }
     ensures errors { IfErr result (λ e. (e ≡ PathError.OutOfMemory) ⊎ (e ≡ PathError.CostOverflow)) }
 {
-    estimates.consistent();
-    estimates.known();
-    pf_informed::directed::idastar::idastar(
-        alloc,
-        &from,
-        |n: &usize| edges_of(estimates, *n),
-        |n: &usize| estimates.estimate(*n),
-        |n: &usize| estimates.is_goal(*n),
-    )
+    let graph = begin(alloc, estimates, from)?;
+    idastar_of(alloc, graph, Guide::new(estimates))
 }

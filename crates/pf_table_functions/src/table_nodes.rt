@@ -1,13 +1,13 @@
 //! Nodes of a table that are numbered in the order in which a search finds them.
 
 ghost use Rattle.std.specs.Prelude.{◌≡◌, ◌<◌, ◌≤◌, ◌-◌, ◌++◌, [], ◌∷◌, ℕ, List, Some, IfOk, IfErr, IfSome, OnErr, OnOk, MatchOption, length, nat_eq, slice_get, take};
-ghost use Rattle.std.specs.List.{IsDistinct, position};
+ghost use Rattle.std.specs.List.{AllZip, IsDistinct, position};
 ghost use Rattle.pf_base.specs.NodeRefs.{HasSameNodes};
 ghost use Rattle.pf_table_functions.specs.Internal.Numbers.{AreNumbersOf};
 
 use pf_base::PathError;
-use pf_discovery::numbering::Numbering;
-use std::alloc::{AllocFailed, Allocator};
+use pf_discovery::numbering::{CloneNumbering, Numbering};
+use std::alloc::{AllocError, AllocFailed, Allocator};
 use std::marker::Model;
 
 /// How many nodes can have numbers, which are kept in 32 bits.
@@ -39,6 +39,20 @@ impl<A: Allocator> Model for TableNodes<A> {
     ghost view = { λ s. s.nodes.items };
 
     ghost invariant = { λ s. AreNumbersOf s.size s.numbers.items s.nodes.items };
+}
+
+impl<A: Allocator + Clone> Clone for TableNodes<A> {
+    ghost is_clone = { AllZip (λ x y. y ≡ x) };
+
+    fn clone(&self) -> Result<Self, AllocError> {
+        let numbers = self.numbers.clone()?;
+        let nodes = self.nodes.clone()?;
+        Ok(TableNodes {
+            size: self.size,
+            numbers,
+            nodes,
+        })
+    }
 }
 
 impl<A: Allocator + Copy> TableNodes<A> {
@@ -181,4 +195,8 @@ impl<A: Allocator> Numbering for TableNodes<A> {
             self.take_last();
         }
     }
+}
+
+impl<A: Allocator + Clone> CloneNumbering<usize> for TableNodes<A> {
+    ghost clone_law = { λ x y h. h };
 }

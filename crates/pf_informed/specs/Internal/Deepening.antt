@@ -124,5 +124,5 @@ module _ {C Z : Type 0} (way : Way C Z) where
   IsMarkedOn value limit found = IsMarkedWay value limit found way.marks.items way.frame (reverse way.trail.items) way.cut_off.least
 
   -- where a search stands that has come so far
-  abbrev pub IsUnderWay : {N S T H : Type 0} → (N → N → Bool) → (C → ℤ) → (ℤ → Type 0) → NodeGraph N → (N → Bool) → (N → ℤ) → N → Known N C S T H Z → Type 0
-  IsUnderWay eq value fits g test least first known = IsOnWay eq value fits g test least first known.graph.discovery.nodes.keys known.rows.steps.items known.rows.spans.items way.frame (reverse way.trail.items) way.cut_off.least way.cut_off.past
+  abbrev pub IsUnderWay : {M N S T H : Type 0} → (M → List N) → (N → N → Bool) → (C → ℤ) → (ℤ → Type 0) → NodeGraph N → (N → Bool) → (N → ℤ) → N → Known M C S T H Z → Type 0
+  IsUnderWay keys_of eq value fits g test least first known = IsOnWay eq value fits g test least first (keys_of known.graph.discovery.nodes) known.rows.steps.items known.rows.spans.items way.frame (reverse way.trail.items) way.cut_off.least way.cut_off.past

@@ -35,37 +35,37 @@ module _ {X C : Type 0} (value : C → ℤ) (step : X → ℤ → X → Type 0) 
     pub sound : (k : ℕ) (s : Span) (x : X) → HasSpan spans k s → stands k x → (i j : ℕ) (c : C) → IsIn s i → slice_get steps i ≡ Some (j, c) → (y : X) × step x (value c) y × stands j y
     pub complete : (k : ℕ) (s : Span) (x : X) → HasSpan spans k s → stands k x → (z : ℤ) (y : X) → step x z y → (i j : ℕ) × (c : C) × IsIn s i × (slice_get steps i ≡ Some (j, c)) × stands j y × (value c ≡ z)
 
-module _ {N C S T H Z : Type 0} where
+module _ {M N C S T H Z : Type 0} (keys_of : M → List N) where
   -- how many nodes were found
-  abbrev pub found_in : Known N C S T H Z → ℕ
-  found_in known = length known.graph.discovery.nodes.keys
+  abbrev pub found_in : Known M C S T H Z → ℕ
+  found_in known = length (keys_of known.graph.discovery.nodes)
 
   -- what is kept of these is a table
-  abbrev pub IsTabled : Known N C S T H Z → Type 0
+  abbrev pub IsTabled : Known M C S T H Z → Type 0
   IsTabled known = IsTable (found_in known) known.rows.steps.items known.rows.spans.items
 
   -- each number that was found has an estimate, and what is kept of these is a table
-  pub record IsWhole (known : Known N C S T H Z) : Type 0 where
+  pub record IsWhole (known : Known M C S T H Z) : Type 0 where
     pub asked : length known.estimates.items ≡ found_in known
     pub table : IsTabled known
 
   -- what is known is whole, the numbers stand for what they stood for, and the steps and the spans that were kept stay
-  pub record KnowsMore (eq : N → N → Bool) (known known' : Known N C S T H Z) : Type 0 where
+  pub record KnowsMore (eq : N → N → Bool) (known known' : Known M C S T H Z) : Type 0 where
     pub whole : IsWhole known'
-    pub grows : FindsMore eq known.graph known'.graph
+    pub grows : FindsMore keys_of eq known.graph known'.graph
     pub steps : (i : ℕ) (e : ℕ × C) → slice_get known.rows.steps.items i ≡ Some e → slice_get known'.rows.steps.items i ≡ Some e
     pub spans : (k : ℕ) (s : Span) → HasSpan known.rows.spans.items k s → HasSpan known'.rows.spans.items k s
 
   -- What is known of a graph: what a search led by estimates knows, and that each row is right.
   module _ (eq : N → N → Bool) (value : C → ℤ) (edge_answers : S → List N → (N → List (N × ℤ)) → Type 0) (test_answers : T → (N → Type 0) → (N → Bool) → Type 0) (estimate_answers : H → (N → Type 0) → (N → ℤ) → Type 0) where
-    pub record IsKnown (g : NodeGraph N) (test : N → Bool) (least : N → ℤ) (known : Known N C S T H Z) : Type 0 where
-      pub led : IsLed eq value edge_answers test_answers estimate_answers g test least known.graph known.estimate known.estimates.items
-      pub rows : HasRows value (IsCheapStep eq g) test (StandsFor eq known.graph.discovery.nodes.keys) known.rows.steps.items known.rows.spans.items
+    pub record IsKnown (g : NodeGraph N) (test : N → Bool) (least : N → ℤ) (known : Known M C S T H Z) : Type 0 where
+      pub led : IsLed keys_of eq value edge_answers test_answers estimate_answers g test least known.graph known.estimate known.estimates.items
+      pub rows : HasRows value (IsCheapStep eq g) test (StandsFor eq (keys_of known.graph.discovery.nodes)) known.rows.steps.items known.rows.spans.items
 
     -- some start stands first, and some edges, test and estimate from it are known
-    abbrev pub AnswersKnownSearch : Known N C S T H Z → Type 0
-    AnswersKnownSearch known = (start : N) × (edges : N → List (N × ℤ)) × (test : N → Bool) × (least : N → ℤ) × StandsFor eq known.graph.discovery.nodes.keys 0 start × IsKnown (record { starts = start ∷ []; edges = edges }) test least known
+    abbrev pub AnswersKnownSearch : Known M C S T H Z → Type 0
+    AnswersKnownSearch known = (start : N) × (edges : N → List (N × ℤ)) × (test : N → Bool) × (least : N → ℤ) × StandsFor eq (keys_of known.graph.discovery.nodes) 0 start × IsKnown (record { starts = start ∷ []; edges = edges }) test least known
 
     -- of whatever start stands first, and whatever edges, test and estimate from it are known, P holds
-    abbrev pub OfKnownSearch : Known N C S T H Z → (N → (N → List (N × ℤ)) → (N → Bool) → (N → ℤ) → Type 0) → Type 0
-    OfKnownSearch known P = (start : N) (edges : N → List (N × ℤ)) (test : N → Bool) (least : N → ℤ) → StandsFor eq known.graph.discovery.nodes.keys 0 start → IsKnown (record { starts = start ∷ []; edges = edges }) test least known → P start edges test least
+    abbrev pub OfKnownSearch : Known M C S T H Z → (N → (N → List (N × ℤ)) → (N → Bool) → (N → ℤ) → Type 0) → Type 0
+    OfKnownSearch known P = (start : N) (edges : N → List (N × ℤ)) (test : N → Bool) (least : N → ℤ) → StandsFor eq (keys_of known.graph.discovery.nodes) 0 start → IsKnown (record { starts = start ∷ []; edges = edges }) test least known → P start edges test least

@@ -8,6 +8,7 @@ ghost use Rattle.pf_informed.specs.Estimates.{AnswersInformedSearch, MayOverflow
 ghost use Rattle.pf_informed.specs.Internal.Led.{IsLed, IsNew, OfLedSearch};
 
 pub use crate::directed::astar_bag::{AstarSolution, astar_bag, astar_bag_collect};
+use crate::discovered::astar_of;
 use crate::functions::EstimateFunction;
 use crate::queue::take_least;
 use crate::search::Search;
@@ -15,35 +16,37 @@ use crate::turns::{begin, path_found, turn};
 use pf_base::{Cost, EdgeFunction, NodeTest, PathError};
 use pf_core::numbered::GoalGraph;
 use pf_discovery::discovery::{Discovery, clone_of};
+use pf_discovery::numbering::Numbering;
 use pf_discovery::source::{EdgeSource, Weighted};
-use pf_discovery::tested::Tested;
+use pf_discovery::tested::{Tested, TestedBy};
 use std::alloc::Allocator;
 use std::hash::Hash;
 
 /// Searches from the only node that was found, with nothing known of it yet.
-fn search_on<N, C, S, T, H, A>(
+pub(crate) fn search_on<N, M, C, S, T, H, A>(
     alloc: A,
-    graph: &mut Tested<N, S, T, A>,
+    graph: &mut TestedBy<M, S, T>,
     estimate: &mut H,
     search: &mut Search<C, A>,
 ) -> Result<Option<(Vec<N, A>, C)>, PathError>
 where
-    N: Eq + Hash + Clone + Drop,
+    N: Eq + Clone + Drop,
+    M: Numbering<Node = N>,
     C: Cost,
     S: EdgeSource<N, C>,
     T: NodeTest<N>,
     H: EstimateFunction<N, C>,
     A: Allocator + Copy,
     requires clones { IsLawfulClone N.eq N.is_clone }
-    requires one { length graph.old.discovery.nodes.keys ≡ 1 }
+    requires one { length (M.keys graph.old.discovery.nodes) ≡ 1 }
     requires new { IsNew search.old }
     requires graph { (g : NodeGraph N) × (test : N → Bool) × (least : N → ℤ)
-        × IsLed N.eq C.value S.answers T.answers H.answers g test least graph.old estimate.old search.old.estimates.items }
+        × IsLed M.keys N.eq C.value S.answers T.answers H.answers g test least graph.old estimate.old search.old.estimates.items }
 
-    ensures best { OfLedSearch N.eq C.value S.answers T.answers H.answers graph.old estimate.old search.old.estimates.items (λ start edges test least.
+    ensures best { OfLedSearch M.keys N.eq C.value S.answers T.answers H.answers graph.old estimate.old search.old.estimates.items (λ start edges test least.
         IfOk result (IsCheapestOrNone N.eq edges (start ∷ []) test C.value)) }
 
-    ensures overflow { OfLedSearch N.eq C.value S.answers T.answers H.answers graph.old estimate.old search.old.estimates.items (λ start edges test least.
+    ensures overflow { OfLedSearch M.keys N.eq C.value S.answers T.answers H.answers graph.old estimate.old search.old.estimates.items (λ start edges test least.
         result ≡ Err PathError.CostOverflow → MayOverflow N.eq edges (start ∷ []) test least C.fits) }
 
     ensures errors { IfErr result (λ e. (e ≡ PathError.OutOfMemory) ⊎ (e ≡ PathError.CostOverflow)) }
@@ -92,7 +95,7 @@ pub fn astar<N, C, IN, FN, FH, FS, A>(
     alloc: A,
     start: &N,
     successors: FN,
-    mut estimate: FH,
+    estimate: FH,
     success: FS,
 ) -> Result<Option<(Vec<N, A>, C)>, PathError>
 where
@@ -123,7 +126,5 @@ where
             function: successors,
         },
     };
-    let mut graph = Tested { discovery, success };
-    let mut search = Search::new(alloc);
-    search_on(alloc, &mut graph, &mut estimate, &mut search)
+    astar_of(alloc, Tested { discovery, success }, estimate)
 }

@@ -9,6 +9,7 @@ ghost use Rattle.pf_informed.specs.Internal.Led.{AnswersLedSearch, IsNew, OfLedS
 ghost use Rattle.pf_informed.specs.Internal.Ways.{AreGathered, AreWaysIn, PathsTurn, paths_in};
 
 use crate::cheapest_labels::label_cheapest;
+use crate::discovered::astar_bag_of;
 use crate::functions::EstimateFunction;
 use crate::search::Search;
 use crate::tight::tight_edges;
@@ -16,41 +17,46 @@ use crate::ways::Ways;
 use pf_base::{Cost, EdgeFunction, NodeTest, PathError};
 use pf_core::clones::clones_at;
 use pf_discovery::discovery::{Discovery, Nodes, clone_of};
+use pf_discovery::numbering::{CloneNumbering, Numbering};
 use pf_discovery::source::{EdgeSource, Weighted};
-use pf_discovery::tested::Tested;
+use pf_discovery::tested::{Tested, TestedBy};
 use std::alloc::{AllocError, Allocator, Global};
 use std::hash::Hash;
 use std::marker::Model;
 
-/// All cheapest clean paths, each as a `Result`, once: made by `astar_bag`.
+/// All cheapest clean paths, each as a `Result`, once: made by `astar_bag`. The nodes are numbered by `M`.
 #[derive(Drop)]
-pub struct AstarSolution<N: Eq + Hash, A: Allocator = Global> {
+pub struct AstarSolutionBy<M: Numbering, A: Allocator = Global> {
     alloc: A,
-    nodes: Nodes<N, A>,
+    nodes: M,
     ways: Ways<A>,
     refused: bool,
 }
 
-impl<N: Eq + Hash, A: Allocator> Model for AstarSolution<N, A> {
+/// All cheapest clean paths, of nodes that are numbered by their hashes.
+pub type AstarSolution<N, A = Global> = AstarSolutionBy<Nodes<N, A>, A>;
+
+impl<M: Numbering, A: Allocator> Model for AstarSolutionBy<M, A> {
     ghost use Rattle.std.specs.Prelude.{◌≤◌, length};
     ghost use Rattle.pf_informed.specs.CheapestPaths.{PathsToCome, paths_to_come_code};
     ghost use Rattle.pf_informed.specs.Internal.Ways.{AreWaysIn, nothing_waits, paths_in};
 
-    ghost Value = { PathsToCome N };
+    ghost Value = { PathsToCome M.Node };
 
-    ghost coded = { paths_to_come_code N.code };
+    ghost coded = { paths_to_come_code M.Node.code };
 
-    ghost view = { λ s. record { left = paths_in s.nodes.keys s.ways; refused = s.refused; ended = nothing_waits s.ways.waiting.items } };
+    ghost view = { λ s. record { left = paths_in (M.keys s.nodes) s.ways; refused = s.refused; ended = nothing_waits s.ways.waiting.items } };
 
-    ghost invariant = { λ s. AreWaysIn s.ways × (length s.ways.before ≤ length s.nodes.keys) };
+    ghost invariant = { λ s. AreWaysIn s.ways × (length s.ways.before ≤ length (M.keys s.nodes)) };
 }
 
 /// A clone has the paths to come that the original has, in the same order, of clones of the nodes; it
 /// was refused where the original was, and is at its end where the original is. The only error is a
 /// refused request for memory.
-impl<N, A> Clone for AstarSolution<N, A>
+impl<N, M, A> Clone for AstarSolutionBy<M, A>
 where
-    N: Eq + Hash + Clone + Drop,
+    N: Eq + Clone + Drop,
+    M: Numbering<Node = N> + CloneNumbering<N> + Drop,
     A: Allocator + Copy,
 {
     ghost is_clone = { IsPathsClone N.is_clone };
@@ -58,7 +64,7 @@ where
     fn clone(&self) -> Result<Self, AllocError> {
         let nodes = self.nodes.clone()?;
         let ways = self.ways.clone()?;
-        Ok(AstarSolution {
+        Ok(AstarSolutionBy {
             alloc: self.alloc,
             nodes,
             ways,
@@ -67,9 +73,10 @@ where
     }
 }
 
-impl<N, A> Iterator for AstarSolution<N, A>
+impl<N, M, A> Iterator for AstarSolutionBy<M, A>
 where
-    N: Eq + Hash + Clone + Drop,
+    N: Eq + Clone + Drop,
+    M: Numbering<Node = N> + Drop,
     A: Allocator + Copy,
 {
     type Item = Result<Vec<N, A>, PathError>;
@@ -81,10 +88,10 @@ where
     ghost next_gives = { PathsStep N.eq };
 
     fn next(&mut self) -> Option<Result<Vec<N, A>, PathError>>
-        requires { ⟦<AstarSolution<N, A> as Iterator>⟧.can_next self.old }
-        ensures steps { ⟦<AstarSolution<N, A> as Iterator>⟧.next_gives self.old result self.new }
-        ensures goes { MakesProgress ⟦<AstarSolution<N, A> as Iterator>⟧.can_next ⟦<AstarSolution<N, A> as Iterator>⟧.remaining self.old result self.new }
-        ensures again { ⟦<AstarSolution<N, A> as Iterator>⟧.can_next self.new }
+        requires { ⟦<AstarSolutionBy<M, A> as Iterator>⟧.can_next self.old }
+        ensures steps { ⟦<AstarSolutionBy<M, A> as Iterator>⟧.next_gives self.old result self.new }
+        ensures goes { MakesProgress ⟦<AstarSolutionBy<M, A> as Iterator>⟧.can_next ⟦<AstarSolutionBy<M, A> as Iterator>⟧.remaining self.old result self.new }
+        ensures again { ⟦<AstarSolutionBy<M, A> as Iterator>⟧.can_next self.new }
     {
         if self.refused {
             return None;
@@ -95,9 +102,10 @@ where
     }
 }
 
-impl<N, A> AstarSolution<N, A>
+impl<N, M, A> AstarSolutionBy<M, A>
 where
-    N: Eq + Hash + Clone + Drop,
+    N: Eq + Clone + Drop,
+    M: Numbering<Node = N> + Drop,
     A: Allocator + Copy,
 {
     /// Lets the next call of `next` try again the step that was refused. Where no step was refused
@@ -128,30 +136,31 @@ where
 
 /// Searches from the only node that was found, with nothing known of it yet, for all cheapest ways back
 /// from goals, and their cost.
-fn find_ways<N, C, S, T, H, A>(
+pub(crate) fn find_ways<N, M, C, S, T, H, A>(
     alloc: A,
-    graph: &mut Tested<N, S, T, A>,
+    graph: &mut TestedBy<M, S, T>,
     estimate: &mut H,
     search: &mut Search<C, A>,
 ) -> Result<Option<(Ways<A>, C)>, PathError>
 where
-    N: Eq + Hash + Drop,
+    N: Eq + Drop,
+    M: Numbering<Node = N>,
     C: Cost,
     S: EdgeSource<N, C>,
     T: NodeTest<N>,
     H: EstimateFunction<N, C>,
     A: Allocator + Copy,
-    requires one { length graph.old.discovery.nodes.keys ≡ 1 }
+    requires one { length (M.keys graph.old.discovery.nodes) ≡ 1 }
     requires new { IsNew search.old }
-    requires graph { AnswersLedSearch N.eq C.value S.answers T.answers H.answers graph.old estimate.old search.old.estimates.items }
+    requires graph { AnswersLedSearch M.keys N.eq C.value S.answers T.answers H.answers graph.old estimate.old search.old.estimates.items }
 
-    ensures all { OfLedSearch N.eq C.value S.answers T.answers H.answers graph.old estimate.old search.old.estimates.items (λ start edges test least.
-        IfOk result (AreCheapestCleanPathsOrNone N.eq edges (start ∷ []) test (paths_in graph.new.discovery.nodes.keys) C.value)) }
+    ensures all { OfLedSearch M.keys N.eq C.value S.answers T.answers H.answers graph.old estimate.old search.old.estimates.items (λ start edges test least.
+        IfOk result (AreCheapestCleanPathsOrNone N.eq edges (start ∷ []) test (paths_in (M.keys graph.new.discovery.nodes)) C.value)) }
 
     ensures ways { IfOk result (λ answer. MatchOption answer ⊤
-        (λ found. AreWaysIn found.0 × (length found.0.before ≤ length graph.new.discovery.nodes.keys))) }
+        (λ found. AreWaysIn found.0 × (length found.0.before ≤ length (M.keys graph.new.discovery.nodes)))) }
 
-    ensures overflow { OfLedSearch N.eq C.value S.answers T.answers H.answers graph.old estimate.old search.old.estimates.items (λ start edges test least.
+    ensures overflow { OfLedSearch M.keys N.eq C.value S.answers T.answers H.answers graph.old estimate.old search.old.estimates.items (λ start edges test least.
         result ≡ Err PathError.CostOverflow → MayOverflow N.eq edges (start ∷ []) test least C.fits) }
 
     ensures errors { IfErr result (λ e. (e ≡ PathError.OutOfMemory) ⊎ (e ≡ PathError.CostOverflow)) }
@@ -165,20 +174,21 @@ where
 }
 
 /// The paths over nodes of the ways that were found, and their cost.
-fn solution_of<N, C, A>(
+pub(crate) fn solution_of<N, M, C, A>(
     alloc: A,
-    nodes: Nodes<N, A>,
+    nodes: M,
     found: Result<Option<(Ways<A>, C)>, PathError>,
-) -> Result<Option<(AstarSolution<N, A>, C)>, PathError>
+) -> Result<Option<(AstarSolutionBy<M, A>, C)>, PathError>
 where
-    N: Eq + Hash + Drop,
+    N: Eq + Drop,
+    M: Numbering<Node = N> + Drop,
     C: Copy,
     A: Allocator,
     requires { IfOk found (λ answer. MatchOption answer ⊤
-        (λ found. AreWaysIn found.0 × (length found.0.before ≤ length nodes.keys))) }
+        (λ found. AreWaysIn found.0 × (length found.0.before ≤ length (M.keys nodes)))) }
 
     ensures all { (value : C → ℤ) (start : N) (edges : N → List (N × ℤ)) (test : N → Bool)
-        → IfOk found (AreCheapestCleanPathsOrNone N.eq edges (start ∷ []) test (paths_in nodes.keys) value)
+        → IfOk found (AreCheapestCleanPathsOrNone N.eq edges (start ∷ []) test (paths_in (M.keys nodes)) value)
         → IfOk result (AreCheapestCleanPathsOrNone N.eq edges (start ∷ []) test (λ paths. paths.left) value) }
 
     ensures ready { IfOk result (λ answer. MatchOption answer ⊤ (λ found. found.0.refused ≡ false)) }
@@ -186,7 +196,7 @@ where
 {
     match found {
         Ok(Some((ways, best))) => {
-            let solution = AstarSolution {
+            let solution = AstarSolutionBy {
                 alloc,
                 nodes,
                 ways,
@@ -237,7 +247,7 @@ pub fn astar_bag<N, C, IN, FN, FH, FS, A>(
     alloc: A,
     start: &N,
     successors: FN,
-    mut estimate: FH,
+    estimate: FH,
     success: FS,
 ) -> Result<Option<(AstarSolution<N, A>, C)>, PathError>
 where
@@ -270,19 +280,17 @@ where
             function: successors,
         },
     };
-    let mut graph = Tested { discovery, success };
-    let mut search = Search::new(alloc);
-    let found = find_ways(alloc, &mut graph, &mut estimate, &mut search);
-    solution_of(alloc, graph.discovery.nodes, found)
+    astar_bag_of(alloc, Tested { discovery, success }, estimate)
 }
 
 /// The paths that an iterator gives.
-fn gather<N, A>(
+fn gather<N, M, A>(
     alloc: A,
-    solution: &mut AstarSolution<N, A>,
+    solution: &mut AstarSolutionBy<M, A>,
 ) -> Result<Vec<Vec<N, A>, A>, PathError>
 where
-    N: Eq + Hash + Clone + Drop,
+    N: Eq + Clone + Drop,
+    M: Numbering<Node = N> + Drop,
     A: Allocator + Copy,
     requires clones { IsLawfulClone N.eq N.is_clone }
     requires ready { solution.old.refused ≡ false }
@@ -297,12 +305,13 @@ where
 }
 
 /// The paths of an iterator, if there is one, and their cost.
-fn collected<N, C, A>(
+pub(crate) fn collected<N, M, C, A>(
     alloc: A,
-    found: Result<Option<(AstarSolution<N, A>, C)>, PathError>,
+    found: Result<Option<(AstarSolutionBy<M, A>, C)>, PathError>,
 ) -> Result<Option<(Vec<Vec<N, A>, A>, C)>, PathError>
 where
-    N: Eq + Hash + Clone + Drop,
+    N: Eq + Clone + Drop,
+    M: Numbering<Node = N> + Drop,
     C: Copy,
     A: Allocator + Copy,
     requires clones { IsLawfulClone N.eq N.is_clone }

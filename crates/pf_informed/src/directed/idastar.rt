@@ -8,41 +8,44 @@ ghost use Rattle.pf_informed.specs.Internal.Rows.{AnswersKnownSearch, found_in, 
 
 use crate::directed::idastar::known::Known;
 use crate::directed::idastar::round::{Round, look_through};
+use crate::discovered::idastar_of;
 use crate::estimates::ask;
 use crate::functions::EstimateFunction;
 use pf_base::{Cost, EdgeFunction, NodeTest, PathError};
 use pf_discovery::discovery::{Discovery, clone_of};
+use pf_discovery::numbering::Numbering;
 use pf_discovery::source::{EdgeSource, Weighted};
 use pf_discovery::tested::Tested;
 use std::alloc::Allocator;
 use std::hash::Hash;
 
 mod cheapest_row;
-mod known;
+pub(crate) mod known;
 mod round;
 
 /// Searches from the only node that was found, with nothing known of it yet.
-fn search_on<N, C, S, T, H, A>(
+pub(crate) fn search_on<N, M, C, S, T, H, A>(
     alloc: A,
-    known: &mut Known<N, C, S, T, H, A>,
+    known: &mut Known<M, C, S, T, H, A>,
 ) -> Result<Option<(Vec<N, A>, C)>, PathError>
 where
-    N: Eq + Hash + Clone + Drop,
+    N: Eq + Clone + Drop,
+    M: Numbering<Node = N>,
     C: Cost,
     S: EdgeSource<N, C>,
     T: NodeTest<N>,
     H: EstimateFunction<N, C>,
     A: Allocator + Copy,
     requires clones { IsLawfulClone N.eq N.is_clone }
-    requires one { found_in known.old ≡ 1 }
+    requires one { found_in M.keys known.old ≡ 1 }
     requires unasked { known.old.estimates.items ≡ [] }
-    requires table { IsTabled known.old }
-    requires graph { AnswersKnownSearch N.eq C.value S.answers T.answers H.answers known.old }
+    requires table { IsTabled M.keys known.old }
+    requires graph { AnswersKnownSearch M.keys N.eq C.value S.answers T.answers H.answers known.old }
 
-    ensures best { OfKnownSearch N.eq C.value S.answers T.answers H.answers known.old (λ start edges test least.
+    ensures best { OfKnownSearch M.keys N.eq C.value S.answers T.answers H.answers known.old (λ start edges test least.
         IfOk result (IsCheapestOrNone N.eq edges (start ∷ []) test C.value)) }
 
-    ensures overflow { OfKnownSearch N.eq C.value S.answers T.answers H.answers known.old (λ start edges test least.
+    ensures overflow { OfKnownSearch M.keys N.eq C.value S.answers T.answers H.answers known.old (λ start edges test least.
         result ≡ Err PathError.CostOverflow → MayOverflow N.eq edges (start ∷ []) test least C.fits) }
 
     ensures errors { IfErr result (λ e. (e ≡ PathError.OutOfMemory) ⊎ (e ≡ PathError.CostOverflow)) }
@@ -134,6 +137,5 @@ where
             function: successors,
         },
     };
-    let mut known = Known::new(alloc, Tested { discovery, success }, estimate);
-    search_on(alloc, &mut known)
+    idastar_of(alloc, Tested { discovery, success }, estimate)
 }

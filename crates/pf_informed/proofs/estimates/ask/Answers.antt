@@ -14,14 +14,14 @@ nodes-init g c = record {
 pub estimate-asked-requires : goal.estimate-asked-requires
 estimate-asked-requires g c =
     let r = c.requires.graph in
-    let at : slice_get c.args.nodes.now.keys c.nodes.number ≡ Some c.index-nodes-number.result = subst (λ (xs : List g.row.N.Denot). slice_get xs c.nodes.number ≡ Some c.index-nodes-number.result) c.as_slice-nodes.ensures.keys (at_place c.as_slice-nodes.result.now _ _ _ c.nodes-test.true (sym c.index-nodes-number.is)) in
+    let at : slice_get (g.M.Numbering.keys c.args.nodes.now) c.nodes.number ≡ Some c.index-nodes-number.result = subst (λ (xs : List g.row.N.Denot). slice_get xs c.nodes.number ≡ Some c.index-nodes-number.result) c.as_slice-nodes.ensures.keys (at_place c.as_slice-nodes.result.now _ _ _ c.nodes-test.true (sym c.index-nodes-number.is)) in
     record { within = (r.0.starts, r.0.edges, r.1, r.3 c.nodes.number c.index-nodes-number.result at, (c.nodes.invariant.answered r.0 r.1 r.2 r.3).0) }
 
 pub nodes-preserved : goal.nodes-preserved
 nodes-preserved g c =
     let i = c.nodes.invariant in
     let e = c.in_ok-push.ensures.items in
-    let keys = c.args.nodes.now.keys in
+    let keys = g.M.Numbering.keys c.args.nodes.now in
     let at : slice_get keys c.nodes.number ≡ Some c.index-nodes-number.result = subst (λ (xs : List g.row.N.Denot). slice_get xs c.nodes.number ≡ Some c.index-nodes-number.result) c.as_slice-nodes.ensures.keys (at_place c.as_slice-nodes.result.now _ _ _ c.nodes-test.true (sym c.index-nodes-number.is)) in
     record {
       len = search rules;

@@ -8,7 +8,7 @@ abbrev pub invariant-nodes : goal.invariant-nodes
 invariant-nodes g l =
     let eq = g.N.PartialEq.eq in
     let answers = g.H.EstimateFunction.answers in
-    let at = slice_get l.fn.nodes.keys in
+    let at = slice_get (g.M.Numbering.keys l.fn.nodes) in
     record {
       len : length l.estimates.items ≡ l.number;
       kept : (k : ℕ) (c : g.row.C.Denot) → slice_get l.fn.estimates.items k ≡ Some c → slice_get l.estimates.items k ≡ Some c;

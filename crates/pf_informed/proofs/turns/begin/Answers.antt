@@ -35,7 +35,7 @@ returns g c =
           });
       graph = on_ok c.begin.result (both_ok _ _ c.begin.result b.labelled b.waiting) (λ w h test least d.
           let eq = g.N.PartialEq.eq in
-          let keys = c.args.graph.now.discovery.nodes.keys in
+          let keys = g.M.Numbering.keys c.args.graph.now.discovery.nodes in
           let a = c.in_ok-ask.ensures.graph h least d.asked d.explores.reached in (
             rw b.estimates (led_more d a.0 a.1),
             λ passes.

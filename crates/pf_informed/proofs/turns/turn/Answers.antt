@@ -40,7 +40,7 @@ follow-requires-clause-steps g c = λ j d m.
     let r = c.requires.graph in
     let k = r.3 in
     let l = c.requires.labelled in
-    let here = begins_all eq laws c.args.graph.now.discovery.nodes.keys c.args.number (subst (λ (n : ℕ). c.args.number < n) c.requires.ready.wide (HasLabel-inside _ _ _ l.1)) in
+    let here = begins_all eq laws (g.M.Numbering.keys c.args.graph.now.discovery.nodes) c.args.number (subst (λ (n : ℕ). c.args.number < n) c.requires.ready.wide (HasLabel-inside _ _ _ l.1)) in
     let row = c.in_ok-expand.ensures.listed in
     let lists = row.4 (with_test r.0 r.1) (k.explores, k.tested) here.0 here.1 in
     let p = no_negative eq laws r.0 k.explores.alike k.costs in
@@ -87,8 +87,8 @@ returns g c =
           let value = g.C.Number.value in
           let l = c.requires.labelled in
           let number = c.args.number in
-          let old = c.args.graph.now.discovery.nodes.keys in
-          let keys = c.expand.new.self.discovery.nodes.keys in
+          let old = g.M.Numbering.keys c.args.graph.now.discovery.nodes in
+          let keys = g.M.Numbering.keys c.expand.new.self.discovery.nodes in
           let labels = c.args.search.now.labels.items in
           let estimates = c.args.search.now.estimates.items in
           let asked = c.ask.new.estimates.items in
@@ -97,7 +97,7 @@ returns g c =
           let row = c.in_ok-expand.ensures.listed in
           let x = c.in_ok-expand.ensures.graph (with_test h test) (d.explores, d.tested) in
           let a = c.in_ok-ask.ensures.graph h least d.asked x.0.reached in (
-            subst (λ (es : List g.row.C.Denot). IsLed eq value g.S.EdgeSource.answers g.T.NodeTest.answers g.H.EstimateFunction.answers h test least c.expand.new.self c.ask.new.estimate es) (sym f.estimates) (led_more (led_grown d laws c.requires.ready.asked c.expand.new.self grown x.0 x.1) a.0 a.1),
+            subst (λ (es : List g.row.C.Denot). IsLed g.M.Numbering.keys eq value g.S.EdgeSource.answers g.T.NodeTest.answers g.H.EstimateFunction.answers h test least c.expand.new.self c.ask.new.estimate es) (sym f.estimates) (led_more (led_grown d laws c.requires.ready.asked c.expand.new.self grown x.0 x.1) a.0 a.1),
             λ passes entries rest fails left i.
                 let someone = begins_all eq laws old number (subst (λ (n : ℕ). number < n) c.requires.ready.wide (HasLabel-inside labels number l.0 l.1)) in
                 let stepped = subst (λ (es : List g.row.C.Denot). Follows value g.C.Number.fits es number l.0 c.expand.new.row.items labels c.follow.new.self.labels.items heap c.follow.new.self.queue.entries) f.estimates (w l.0 l.1) in
@@ -134,4 +134,4 @@ pub follow-requires-clause-labelled : goal.follow-requires-clause-labelled
 follow-requires-clause-labelled g c = c.requires.labelled
 
 pub ask-requires-clause-few : goal.ask-requires-clause-few
-ask-requires-clause-few g c = subst (λ (n : ℕ). n ≤ length c.expand.new.self.discovery.nodes.keys) (sym c.requires.ready.asked) c.in_ok-expand.ensures.grows.more
+ask-requires-clause-few g c = subst (λ (n : ℕ). n ≤ length (g.M.Numbering.keys c.expand.new.self.discovery.nodes)) (sym c.requires.ready.asked) c.in_ok-expand.ensures.grows.more

@@ -13,24 +13,25 @@ use crate::functions::EstimateFunction;
 use pf_base::{Cost, NodeTest, PathError};
 use pf_core::numbered::{GoalGraph, NumberedGraph};
 use pf_deepening::rows::{Rows, Span};
+use pf_discovery::numbering::Numbering;
 use pf_discovery::source::EdgeSource;
-use pf_discovery::tested::Tested;
+use pf_discovery::tested::TestedBy;
 use std::alloc::Allocator;
-use std::hash::Hash;
 
 /// The nodes that were found, what is asked for them, and what was answered.
 #[derive(Drop)]
-pub(crate) struct Known<N: Eq + Hash, C: Cost, S, T, H, A: Allocator> {
-    pub graph: Tested<N, S, T, A>,
+pub(crate) struct Known<M, C: Cost, S, T, H, A: Allocator> {
+    pub graph: TestedBy<M, S, T>,
     pub estimate: H,
     pub estimates: Vec<C, A>,
     pub rows: Rows<C, A>,
     pub row: CheapestRow<C, A>,
 }
 
-impl<N, C, S, T, H, A> Known<N, C, S, T, H, A>
+impl<N, M, C, S, T, H, A> Known<M, C, S, T, H, A>
 where
-    N: Eq + Hash + Drop,
+    N: Eq + Drop,
+    M: Numbering<Node = N>,
     C: Cost,
     S: EdgeSource<N, C>,
     T: NodeTest<N>,
@@ -38,12 +39,12 @@ where
     A: Allocator + Copy,
 {
     /// The nodes that were found, with no estimate and no steps.
-    pub fn new(alloc: A, graph: Tested<N, S, T, A>, estimate: H) -> Self
+    pub fn new(alloc: A, graph: TestedBy<M, S, T>, estimate: H) -> Self
         ensures graph { result.graph ≡ graph }
         ensures unasked { result.estimates.items ≡ [] }
-        ensures table { IsTabled result }
-        ensures known { (g : NodeGraph N) (test : N → Bool) (least : N → ℤ) → IsLed N.eq C.value S.answers T.answers H.answers g test least graph estimate []
-            → IsKnown N.eq C.value S.answers T.answers H.answers g test least result }
+        ensures table { IsTabled M.keys result }
+        ensures known { (g : NodeGraph N) (test : N → Bool) (least : N → ℤ) → IsLed M.keys N.eq C.value S.answers T.answers H.answers g test least graph estimate []
+            → IsKnown M.keys N.eq C.value S.answers T.answers H.answers g test least result }
     {
         Known {
             graph,
@@ -57,16 +58,16 @@ where
     /// Where the steps from a number stand, or `None` where its node passes the test. The node is
     /// tested, and its edges are asked for, the first time alone.
     pub fn span_of(&mut self, number: usize) -> Result<Option<Span>, PathError>
-        requires inside { number < found_in self.old }
-        requires whole { IsWhole self.old }
+        requires inside { number < found_in M.keys self.old }
+        requires whole { IsWhole M.keys self.old }
         requires graph { (g : NodeGraph N) × (test : N → Bool) × (least : N → ℤ)
-            × IsKnown N.eq C.value S.answers T.answers H.answers g test least self.old }
-        ensures more { OnOk result (KnowsMore N.eq self.old self.new) }
+            × IsKnown M.keys N.eq C.value S.answers T.answers H.answers g test least self.old }
+        ensures more { OnOk result (KnowsMore M.keys N.eq self.old self.new) }
         ensures kept { IfOk result (λ r. MatchOption r ⊤ (λ s. HasSpan self.new.rows.spans.items number s)) }
         ensures graph { (g : NodeGraph N) (test : N → Bool) (least : N → ℤ)
-            → IsKnown N.eq C.value S.answers T.answers H.answers g test least self.old
-            → IfOk result (λ r. IsKnown N.eq C.value S.answers T.answers H.answers g test least self.new
-            × MatchOption r ((x : N) → StandsFor N.eq self.new.graph.discovery.nodes.keys number x → test x ≡ true) (λ _. ⊤)) }
+            → IsKnown M.keys N.eq C.value S.answers T.answers H.answers g test least self.old
+            → IfOk result (λ r. IsKnown M.keys N.eq C.value S.answers T.answers H.answers g test least self.new
+            × MatchOption r ((x : N) → StandsFor N.eq (M.keys self.new.graph.discovery.nodes) number x → test x ≡ true) (λ _. ⊤)) }
         ensures refused { IfErr result (λ e. e ≡ PathError.OutOfMemory) }
     {
         let span = self.rows.span(number);

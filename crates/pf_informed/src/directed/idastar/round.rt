@@ -12,9 +12,9 @@ use pf_base::{Cost, NodeTest, PathError};
 use pf_deepening::cut_off::admit;
 use pf_deepening::marks::is_marked;
 use pf_deepening::way::{Frame, Way};
+use pf_discovery::numbering::Numbering;
 use pf_discovery::source::EdgeSource;
 use std::alloc::Allocator;
-use std::hash::Hash;
 
 /// What a round found.
 #[derive(Drop)]
@@ -45,34 +45,35 @@ fn numbers_to<C: Copy, A: Allocator>(
 }
 
 /// Takes the next step of the last frame, which has one.
-fn go_on<N, C, S, T, H, A>(
+fn go_on<N, M, C, S, T, H, A>(
     alloc: A,
-    known: &mut Known<N, C, S, T, H, A>,
+    known: &mut Known<M, C, S, T, H, A>,
     limit: C,
     way: &mut Way<C, A>,
 ) -> Result<Option<Round<C, A>>, PathError>
 where
-    N: Eq + Hash + Drop,
+    N: Eq + Drop,
+    M: Numbering<Node = N>,
     C: Cost,
     S: EdgeSource<N, C>,
     T: NodeTest<N>,
     H: EstimateFunction<N, C>,
     A: Allocator + Copy,
     requires left { way.old.frame.at < way.old.frame.end }
-    requires whole { IsWhole known.old }
-    requires marked { IsMarkedOn way.old C.value limit (found_in known.old) }
+    requires whole { IsWhole M.keys known.old }
+    requires marked { IsMarkedOn way.old C.value limit (found_in M.keys known.old) }
     requires graph { (g : NodeGraph N) × (test : N → Bool) × (least : N → ℤ) × (first : N)
-        × IsKnown N.eq C.value S.answers T.answers H.answers g test least known.old
-        × IsUnderWay way.old N.eq C.value C.fits g test least first known.old }
-    ensures more { OnOk result (KnowsMore N.eq known.old known.new) }
-    ensures marked { IfOk result (λ r. MatchOption r (IsMarkedOn way.new C.value limit (found_in known.new)) (IsRound C.value limit (found_in known.new))) }
+        × IsKnown M.keys N.eq C.value S.answers T.answers H.answers g test least known.old
+        × IsUnderWay way.old M.keys N.eq C.value C.fits g test least first known.old }
+    ensures more { OnOk result (KnowsMore M.keys N.eq known.old known.new) }
+    ensures marked { IfOk result (λ r. MatchOption r (IsMarkedOn way.new C.value limit (found_in M.keys known.new)) (IsRound C.value limit (found_in M.keys known.new))) }
     ensures less { IfOk result (λ r. MatchOption r (turns_on way.new < turns_on way.old) (λ _. ⊤)) }
     ensures graph { (g : NodeGraph N) (test : N → Bool) (least : N → ℤ) (first : N)
-        → IsKnown N.eq C.value S.answers T.answers H.answers g test least known.old
-        → IsUnderWay way.old N.eq C.value C.fits g test least first known.old
-        → IfOk result (λ r. IsKnown N.eq C.value S.answers T.answers H.answers g test least known.new
-        × MatchOption r (IsUnderWay way.new N.eq C.value C.fits g test least first known.new)
-        (λ round. Looked N.eq C.value C.fits g test least (StandsFor N.eq known.new.graph.discovery.nodes.keys) first limit round)) }
+        → IsKnown M.keys N.eq C.value S.answers T.answers H.answers g test least known.old
+        → IsUnderWay way.old M.keys N.eq C.value C.fits g test least first known.old
+        → IfOk result (λ r. IsKnown M.keys N.eq C.value S.answers T.answers H.answers g test least known.new
+        × MatchOption r (IsUnderWay way.new M.keys N.eq C.value C.fits g test least first known.new)
+        (λ round. Looked N.eq C.value C.fits g test least (StandsFor N.eq (M.keys known.new.graph.discovery.nodes)) first limit round)) }
     ensures refused { IfErr result (λ e. e ≡ PathError.OutOfMemory) }
 {
     let step = known.rows.steps[way.frame.at];
@@ -103,33 +104,34 @@ where
 }
 
 /// Takes the next step of the last frame, or goes back where none is left.
-fn turn<N, C, S, T, H, A>(
+fn turn<N, M, C, S, T, H, A>(
     alloc: A,
-    known: &mut Known<N, C, S, T, H, A>,
+    known: &mut Known<M, C, S, T, H, A>,
     limit: C,
     way: &mut Way<C, A>,
 ) -> Result<Option<Round<C, A>>, PathError>
 where
-    N: Eq + Hash + Drop,
+    N: Eq + Drop,
+    M: Numbering<Node = N>,
     C: Cost,
     S: EdgeSource<N, C>,
     T: NodeTest<N>,
     H: EstimateFunction<N, C>,
     A: Allocator + Copy,
-    requires whole { IsWhole known.old }
-    requires marked { IsMarkedOn way.old C.value limit (found_in known.old) }
+    requires whole { IsWhole M.keys known.old }
+    requires marked { IsMarkedOn way.old C.value limit (found_in M.keys known.old) }
     requires graph { (g : NodeGraph N) × (test : N → Bool) × (least : N → ℤ) × (first : N)
-        × IsKnown N.eq C.value S.answers T.answers H.answers g test least known.old
-        × IsUnderWay way.old N.eq C.value C.fits g test least first known.old }
-    ensures more { OnOk result (KnowsMore N.eq known.old known.new) }
-    ensures marked { IfOk result (λ r. MatchOption r (IsMarkedOn way.new C.value limit (found_in known.new)) (IsRound C.value limit (found_in known.new))) }
+        × IsKnown M.keys N.eq C.value S.answers T.answers H.answers g test least known.old
+        × IsUnderWay way.old M.keys N.eq C.value C.fits g test least first known.old }
+    ensures more { OnOk result (KnowsMore M.keys N.eq known.old known.new) }
+    ensures marked { IfOk result (λ r. MatchOption r (IsMarkedOn way.new C.value limit (found_in M.keys known.new)) (IsRound C.value limit (found_in M.keys known.new))) }
     ensures less { IfOk result (λ r. MatchOption r (turns_on way.new < turns_on way.old) (λ _. ⊤)) }
     ensures graph { (g : NodeGraph N) (test : N → Bool) (least : N → ℤ) (first : N)
-        → IsKnown N.eq C.value S.answers T.answers H.answers g test least known.old
-        → IsUnderWay way.old N.eq C.value C.fits g test least first known.old
-        → IfOk result (λ r. IsKnown N.eq C.value S.answers T.answers H.answers g test least known.new
-        × MatchOption r (IsUnderWay way.new N.eq C.value C.fits g test least first known.new)
-        (λ round. Looked N.eq C.value C.fits g test least (StandsFor N.eq known.new.graph.discovery.nodes.keys) first limit round)) }
+        → IsKnown M.keys N.eq C.value S.answers T.answers H.answers g test least known.old
+        → IsUnderWay way.old M.keys N.eq C.value C.fits g test least first known.old
+        → IfOk result (λ r. IsKnown M.keys N.eq C.value S.answers T.answers H.answers g test least known.new
+        × MatchOption r (IsUnderWay way.new M.keys N.eq C.value C.fits g test least first known.new)
+        (λ round. Looked N.eq C.value C.fits g test least (StandsFor N.eq (M.keys known.new.graph.discovery.nodes)) first limit round)) }
     ensures refused { IfErr result (λ e. e ≡ PathError.OutOfMemory) }
 {
     if way.frame.at < way.frame.end {
@@ -156,30 +158,31 @@ fn first_alone<A: Allocator>(alloc: A) -> Result<Vec<usize, A>, PathError>
 }
 
 /// Looks through the ways from the number 0 whose costs and estimates stay within the limit together.
-pub(crate) fn look_through<N, C, S, T, H, A>(
+pub(crate) fn look_through<N, M, C, S, T, H, A>(
     alloc: A,
-    known: &mut Known<N, C, S, T, H, A>,
+    known: &mut Known<M, C, S, T, H, A>,
     limit: C,
 ) -> Result<Round<C, A>, PathError>
 where
-    N: Eq + Hash + Drop,
+    N: Eq + Drop,
+    M: Numbering<Node = N>,
     C: Cost,
     S: EdgeSource<N, C>,
     T: NodeTest<N>,
     H: EstimateFunction<N, C>,
     A: Allocator + Copy,
-    requires begun { 0 < found_in known.old }
-    requires whole { IsWhole known.old }
+    requires begun { 0 < found_in M.keys known.old }
+    requires whole { IsWhole M.keys known.old }
     requires graph { (g : NodeGraph N) × (test : N → Bool) × (least : N → ℤ) × (first : N)
-        × IsKnown N.eq C.value S.answers T.answers H.answers g test least known.old
-        × StandsFor N.eq known.old.graph.discovery.nodes.keys 0 first × (least first ≤ℤ C.value limit) }
-    ensures more { OnOk result (KnowsMore N.eq known.old known.new) }
-    ensures round { IfOk result (IsRound C.value limit (found_in known.new)) }
+        × IsKnown M.keys N.eq C.value S.answers T.answers H.answers g test least known.old
+        × StandsFor N.eq (M.keys known.old.graph.discovery.nodes) 0 first × (least first ≤ℤ C.value limit) }
+    ensures more { OnOk result (KnowsMore M.keys N.eq known.old known.new) }
+    ensures round { IfOk result (IsRound C.value limit (found_in M.keys known.new)) }
     ensures graph { (g : NodeGraph N) (test : N → Bool) (least : N → ℤ) (first : N)
-        → IsKnown N.eq C.value S.answers T.answers H.answers g test least known.old
-        → StandsFor N.eq known.old.graph.discovery.nodes.keys 0 first → least first ≤ℤ C.value limit
-        → IfOk result (λ r. IsKnown N.eq C.value S.answers T.answers H.answers g test least known.new
-        × Looked N.eq C.value C.fits g test least (StandsFor N.eq known.new.graph.discovery.nodes.keys) first limit r) }
+        → IsKnown M.keys N.eq C.value S.answers T.answers H.answers g test least known.old
+        → StandsFor N.eq (M.keys known.old.graph.discovery.nodes) 0 first → least first ≤ℤ C.value limit
+        → IfOk result (λ r. IsKnown M.keys N.eq C.value S.answers T.answers H.answers g test least known.new
+        × Looked N.eq C.value C.fits g test least (StandsFor N.eq (M.keys known.new.graph.discovery.nodes)) first limit r) }
     ensures refused { IfErr result (λ e. e ≡ PathError.OutOfMemory) }
 {
     let nothing = C::zero();

@@ -1,39 +1,32 @@
-use Rattle.std.proofs.Common.{rules, ap, ◌∷◌, []}
-use Rattle.std.proofs.lemmas.Iterator.Consumers.{YieldsList-from_first}
-use Rattle.pf_base.proofs.Callers.{nat_test}
-use Rattle.pf_base.proofs.Sources.{gives_chain}
+use Rattle.std.proofs.Common.{inl, refl}
+use Rattle.pf_base.proofs.Callers.{nat_refl}
+use Rattle.pf_base.proofs.Outcomes.{if_refused, no_overflow, refused_as}
 use Rattle.pf_tables.specs.Graphs.{graph_of}
-use Rattle.pf_tables.proofs.GraphLemmas.{no_negative_cost}
-use Rattle.pf_table_functions.proofs.EdgeLemmas.{table_graph}
-use Rattle.pf_table_estimates.proofs.EstimateLemmas.{consistent_admissible, estimate_answered}
 use Rattle.pf_table_estimates.proofs.paths.astar_bag.Goals as goal
 
-pub astar_bag-requires-clause-graph : goal.astar_bag-requires-clause-graph
-astar_bag-requires-clause-graph g c =
-    let value = g.C.Number.value in
+pub astar_bag_of-requires-clause-one : goal.astar_bag_of-requires-clause-one
+astar_bag_of-requires-clause-one g c = rw c.in_ok-graph.ensures.nodes refl
+
+pub astar_bag_of-requires-clause-graph : goal.astar_bag_of-requires-clause-graph
+astar_bag_of-requires-clause-graph g c =
     let given = c.args.estimates.now in
-    let size = g.E.Graph.size given in
-    let places = g.E.Graph.places given in
-    let passes = g.E.Goals.passes given in
-    let estimate = g.E.EstimatedGraph.estimates given in (
-      graph_of value size places,
-      passes,
-      estimate,
-      record {
-        weighted = record {
-          edges_answered = table_graph value size places (λ x w. tt)
-              (λ x r t w k. (ap (λ (q : _). (q, record {})) k.met.1, gives_chain (λ it b. (tt, tt, YieldsList-from_first (λ e. e) (λ es. es) _ (search rules)))));
-          test_answered = nat_test passes (λ x w. tt) (λ x r t w k. (ap (λ (q : _). record { 0 = q }) k.met.1, search rules));
-          costs = no_negative_cost value size places c.known.ensures (c.args.from ∷ []);
-        };
-        estimate_answered = estimate_answered estimate (λ x w. tt) (λ x r t w k. (search rules, search rules));
-        admissible = consistent_admissible value size places passes estimate c.consistent.ensures (c.args.from ∷ []);
-      },
-    )
+    let e = c.in_ok-graph.ensures in
+    (c.args.from, graph_of g.C.Number.value (g.E.Graph.size given) (g.E.Graph.places given), g.E.Goals.passes given, g.E.EstimatedGraph.estimates given, rw e.nodes (c.args.from, refl, nat_refl c.args.from), rw c.new.ensures e.led)
 
 pub returns : goal.returns
-unfolding astar_bag-requires-clause-graph
 returns g c =
-    let p = astar_bag-requires-clause-graph g c.before in
-    let e = c.astar_bag.ensures in
-    record { all = e.all p.0 p.1 p.2 p.3; ready = e.ready; overflow = e.overflow p.0 p.1 p.2 p.3; errors = e.errors }
+    let given = c.args.estimates.now in
+    let edges = graph_of g.C.Number.value (g.E.Graph.size given) (g.E.Graph.places given) in
+    let passes = g.E.Goals.passes given in
+    let estimate = g.E.EstimatedGraph.estimates given in
+    let begun = c.in_ok-graph.ensures in
+    let e = c.astar_bag_of.ensures in
+    record { all = e.all c.args.from edges passes estimate (rw begun.nodes (c.args.from, refl, nat_refl c.args.from)) (rw c.new.ensures begun.led); ready = e.ready; overflow = e.overflow c.args.from edges passes estimate (rw begun.nodes (c.args.from, refl, nat_refl c.args.from)) (rw c.new.ensures begun.led); errors = e.errors }
+
+pub returns-in_err-graph : goal.returns-in_err-graph
+returns-in_err-graph g c = record {
+  all = if_refused _ c.from_residual.result _ c.from_residual.ensures.1;
+  ready = if_refused _ c.from_residual.result _ c.from_residual.ensures.1;
+  overflow = λ e. absurd (no_overflow c.from_residual.result _ c.from_residual.ensures.1 c.in_err-graph.ensures.refused e);
+  errors = refused_as _ c.from_residual.result _ c.from_residual.ensures.1 (inl c.in_err-graph.ensures.refused);
+}

@@ -59,14 +59,14 @@ returns-then-is_goal g c = record {
       let t = c.in-Some.ensures.taken in
       let labels = c.turns.search.labels.items in
       let entries = c.turns.search.queue.entries in
-      let keys = c.turns.graph.discovery.nodes.keys in
+      let keys = g.M.Numbering.keys c.turns.graph.discovery.nodes in
       let begins = inv.begins start s in
       let nodes = at.1 in
       let above = led_above laws now inv.ready.asked begins g.C.Number.fits (λ x y z. g.C.Number.between_law x y z exact) (g.met.C.Zero.zero_fits_law exact)
       labels inv.ready.wide entries inv.ready.sound.forest v.1 c.in-Some.taken.number c.in-Some.taken.cost c.take_least.new.queue.entries t c.in-Some.ensures.queue c.path_found.ensures.fits in
       led_best laws now inv.ready.asked begins g.C.Number.fits (λ x y z. g.C.Number.between_law x y z exact) (g.met.C.Zero.zero_fits_law exact)
       labels inv.ready.wide entries inv.ready.sound.forest v.1 c.in-Some.taken.number t.label t.at nodes.0 nodes.1 (λ y k. sym (told.1 y k) ∙ c.if-is_goal.true) above
-      c.is_goal.new.self.discovery.nodes.keys c.is_goal.ensures.grows after.distinct found.0.items nodes.2 (g.C.Number.value found.1) (t.same ∙ ap g.C.Number.value (sym at.0))) c.path_found.ensures.found;
+      (g.M.Numbering.keys c.is_goal.new.self.discovery.nodes) c.is_goal.ensures.grows after.distinct found.0.items nodes.2 (g.C.Number.value found.1) (t.same ∙ ap g.C.Number.value (sym at.0))) c.path_found.ensures.found;
   overflow = λ start edges test least s d e. absurd (only_memory c.path_found.result c.path_found.ensures.refused e);
   errors = IfErr-weaker c.path_found.result _ _ (λ e h. inl h) c.path_found.ensures.refused;
 }
@@ -109,9 +109,9 @@ turns-preserved g c =
     let estimates = c.turns.search.estimates.items in
     let heap = c.take_least.new.queue.entries in
     let heap_after = c.turn.new.search.queue.entries in
-    let keys = c.turns.graph.discovery.nodes.keys in
-    let between = c.is_goal.new.self.discovery.nodes.keys in
-    let after = c.turn.new.graph.discovery.nodes.keys in
+    let keys = g.M.Numbering.keys c.turns.graph.discovery.nodes in
+    let between = g.M.Numbering.keys c.is_goal.new.self.discovery.nodes in
+    let after = g.M.Numbering.keys c.turn.new.graph.discovery.nodes in
     record {
       ready = n.ready;
       begins = λ x s. grown.stays 0 x (inv.begins x s);

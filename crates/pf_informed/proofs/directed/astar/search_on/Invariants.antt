@@ -9,9 +9,9 @@ abbrev pub invariant-turns : goal.invariant-turns
 invariant-turns g l =
     let eq = g.N.PartialEq.eq in
     let value = g.C.Number.value in
-    let led = IsLed eq value g.S.EdgeSource.answers g.T.NodeTest.answers g.H.EstimateFunction.answers in
-    let first = l.fn.graph.discovery.nodes.keys in
-    let keys = l.graph.discovery.nodes.keys in
+    let led = IsLed g.M.Numbering.keys eq value g.S.EdgeSource.answers g.T.NodeTest.answers g.H.EstimateFunction.answers in
+    let first = g.M.Numbering.keys l.fn.graph.discovery.nodes in
+    let keys = g.M.Numbering.keys l.graph.discovery.nodes in
     let known = l.search.estimates.items in
     let entries = l.search.queue.entries in
     record {
@@ -20,7 +20,7 @@ invariant-turns g l =
       searched : (h : NodeGraph g.row.N.Denot) (test : g.row.N.Denot → Bool) (least : g.row.N.Denot → ℤ)
           → led h test least l.fn.graph l.fn.estimate l.fn.search.estimates.items
           → led h test least l.graph l.estimate known
-          × IsInformedOn eq value g.C.Number.fits h test l.graph l.search entries;
+          × IsInformedOn g.M.Numbering.keys eq value g.C.Number.fits h test l.graph l.search entries;
     }
 
 abbrev pub decreases-turns : goal.decreases-turns

@@ -34,7 +34,7 @@ tight_edges-requires-clause-graph g c =
 pub tight_edges-requires-clause-someone : goal.tight_edges-requires-clause-someone
 tight_edges-requires-clause-someone g c = λ k l.
     let w = MatchOption-at_some _ _ c.in-Some.best c.in-Some.is c.in_ok-best.ensures.wide in
-    begins_all g.N.PartialEq.eq g.met.N.Eq.laws c.label_cheapest.new.graph.discovery.nodes.keys k (subst (λ (n : ℕ). k < n) (ap length c.deref.ensures.value ∙ w.0) l)
+    begins_all g.N.PartialEq.eq g.met.N.Eq.laws (g.M.Numbering.keys c.label_cheapest.new.graph.discovery.nodes) k (subst (λ (n : ℕ). k < n) (ap length c.deref.ensures.value ∙ w.0) l)
 
 pub new-requires-clause-below : goal.new-requires-clause-below
 new-requires-clause-below g c = λ k j h.
@@ -59,8 +59,8 @@ returns g c = record {
       let wide = MatchOption-at_some _ _ c.in-Some.best c.in-Some.is c.in_ok-best.ensures.wide in
       let told = c.in_ok-tight.ensures.tight (with_test (graph_of start edges) test) (v.0.explores, v.0.tested) in
       let x = told.0.0 in
-      let before = c.label_cheapest.new.graph.discovery.nodes.keys in
-      let keys = c.tight_edges.new.graph.discovery.nodes.keys in
+      let before = g.M.Numbering.keys c.label_cheapest.new.graph.discovery.nodes in
+      let keys = g.M.Numbering.keys c.tight_edges.new.graph.discovery.nodes in
       let grow = c.in_ok-tight.ensures.grows in
       let labels = c.label_cheapest.new.search.labels.items in
       let enough : length labels ≤ length keys = subst (λ (n : ℕ). n ≤ length keys) (sym wide.0) grow.more in
@@ -73,7 +73,7 @@ returns g c = record {
   ways =
       let e = c.in_ok-ways.ensures in
       let w = MatchOption-at_some _ _ c.in-Some.best c.in-Some.is c.in_ok-best.ensures.wide in
-      (rw e.before e.ways, subst (λ (n : ℕ). n ≤ length c.tight_edges.new.graph.discovery.nodes.keys) (sym (ap length e.before ∙ c.in_ok-tight.ensures.wide ∙ ap length c.deref.ensures.value ∙ w.0)) c.in_ok-tight.ensures.grows.more);
+      (rw e.before e.ways, subst (λ (n : ℕ). n ≤ length (g.M.Numbering.keys c.tight_edges.new.graph.discovery.nodes)) (sym (ap length e.before ∙ c.in_ok-tight.ensures.wide ∙ ap length c.deref.ensures.value ∙ w.0)) c.in_ok-tight.ensures.grows.more);
   overflow = λ start edges test least b d e. absurd (ok_is_no_error _ _ _ refl e);
   errors = tt;
 }

@@ -29,7 +29,7 @@ turns-init g c =
     let laws = g.met.N.Eq.laws in
     let value = g.C.Number.value in
     let b = c.in_ok-begin.ensures in
-    let keys = c.args.graph.now.discovery.nodes.keys in
+    let keys = g.M.Numbering.keys c.args.graph.now.discovery.nodes in
     let labels = c.begin.new.search.labels.items in
     let kept = c.begin.new.search.estimates.items in
     let heap = c.begin.new.search.queue.entries in
@@ -93,7 +93,7 @@ returns-then-is_goal g c = record {
       let labels = c.turns.search.labels.items in
       let estimates = c.turns.search.estimates.items in
       let entries = c.turns.search.queue.entries ++ listed c.turns.lists in
-      let keys = c.turns.graph.discovery.nodes.keys in
+      let keys = g.M.Numbering.keys c.turns.graph.discovery.nodes in
       let begins = inv.begins start s in
       let nodes = at.1 in
       let between = λ (x y z : ℤ). g.C.Number.between_law x y z exact in
@@ -102,7 +102,7 @@ returns-then-is_goal g c = record {
       let above = led_in_limit laws now inv.ready.asked begins fits between nothing labels inv.ready.wide entries inv.ready.sound.forest v.1 number c.in-Some.taken.cost c.take.new.self.limit (c.take.new.queue.entries ++ listed c.take.new.self) t low in
       led_best laws now inv.ready.asked begins fits between nothing
       labels inv.ready.wide entries inv.ready.sound.forest v.1 number t.label t.at nodes.0 nodes.1 (λ y k. sym (told.1 y k) ∙ c.if-is_goal.true) above
-      c.is_goal.new.self.discovery.nodes.keys c.is_goal.ensures.grows after.distinct found.0.items nodes.2 (value found.1) (t.same ∙ ap value (sym at.0))) c.path_found.ensures.found;
+      (g.M.Numbering.keys c.is_goal.new.self.discovery.nodes) c.is_goal.ensures.grows after.distinct found.0.items nodes.2 (value found.1) (t.same ∙ ap value (sym at.0))) c.path_found.ensures.found;
   overflow = λ start edges test least s d e. absurd (only_memory c.path_found.result c.path_found.ensures.refused e);
   errors = IfErr-weaker c.path_found.result _ _ (λ e h. inl h) c.path_found.ensures.refused;
 }
@@ -150,8 +150,8 @@ turns-preserved g c =
     let estimates = c.turns.search.estimates.items in
     let entries = c.turns.search.queue.entries ++ listed c.turns.lists in
     let rest = listed c.take.new.self in
-    let keys = c.turns.graph.discovery.nodes.keys in
-    let between = c.is_goal.new.self.discovery.nodes.keys in
+    let keys = g.M.Numbering.keys c.turns.graph.discovery.nodes in
+    let between = g.M.Numbering.keys c.is_goal.new.self.discovery.nodes in
     let inside : number < length keys = subst (λ (m : ℕ). number < m) inv.ready.wide (HasLabel-inside labels number t.label t.at) in
     record {
       ready = n.ready;

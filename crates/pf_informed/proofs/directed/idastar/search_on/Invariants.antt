@@ -10,12 +10,12 @@ abbrev pub invariant-limits : goal.invariant-limits
 invariant-limits g l =
     let eq = g.N.PartialEq.eq in
     let value = g.C.Number.value in
-    let answers = IsKnown eq value g.S.EdgeSource.answers g.T.NodeTest.answers g.H.EstimateFunction.answers in
-    let begun = l.fn.known.graph.discovery.nodes.keys in
-    let keys = l.known.graph.discovery.nodes.keys in
+    let answers = IsKnown g.M.Numbering.keys eq value g.S.EdgeSource.answers g.T.NodeTest.answers g.H.EstimateFunction.answers in
+    let begun = g.M.Numbering.keys l.fn.known.graph.discovery.nodes in
+    let keys = g.M.Numbering.keys l.known.graph.discovery.nodes in
     record {
       begins : (x : g.row.N.Denot) → StandsFor eq begun 0 x → StandsFor eq keys 0 x;
-      whole : IsWhole l.known;
+      whole : IsWhole g.M.Numbering.keys l.known;
       searched : (start : g.row.N.Denot) (edges : g.row.N.Denot → List (g.row.N.Denot × ℤ)) (test : g.row.N.Denot → Bool) (least : g.row.N.Denot → ℤ) → StandsFor eq begun 0 start
           → answers (record { starts = start ∷ []; edges = edges }) test least l.fn.known
           → answers (record { starts = start ∷ []; edges = edges }) test least l.known

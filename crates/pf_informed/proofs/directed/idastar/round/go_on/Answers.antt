@@ -28,7 +28,7 @@ returns-then-is_marked g c = record {
       let fits = g.C.Number.fits in
       let known = c.args.known.now in
       let way = c.args.way.now in
-      let keys = known.graph.discovery.nodes.keys in
+      let keys = g.M.Numbering.keys known.graph.discovery.nodes in
       let steps = known.rows.steps.items in
       let step = c.index-step.result.now in
       let at = step_at eq laws value fits h test least first keys steps known.rows.spans.items k.rows (length keys) c.requires.whole.table way.frame (reverse way.trail.items) way.cut_off.least way.cut_off.past w c.requires.left step (sym c.index-step.ensures) in
@@ -43,7 +43,7 @@ admit-requires-clause-inside g c =
     let k = r.4 in
     let known = c.args.known.now in
     let way = c.args.way.now in
-    let keys = known.graph.discovery.nodes.keys in
+    let keys = g.M.Numbering.keys known.graph.discovery.nodes in
     let steps = known.rows.steps.items in
     let step = c.index-step.result.now in
     let at = step_at g.N.PartialEq.eq g.met.N.Eq.laws g.C.Number.value g.C.Number.fits r.0 r.1 r.2 r.3 keys steps known.rows.spans.items k.rows (length keys) c.requires.whole.table way.frame (reverse way.trail.items) way.cut_off.least way.cut_off.past r.5 c.requires.left step (sym c.index-step.ensures) in
@@ -59,7 +59,7 @@ admit-requires-clause-cost g c =
     let k = r.4 in
     let known = c.args.known.now in
     let way = c.args.way.now in
-    let keys = known.graph.discovery.nodes.keys in
+    let keys = g.M.Numbering.keys known.graph.discovery.nodes in
     let steps = known.rows.steps.items in
     let step = c.index-step.result.now in
     let fs = reverse way.trail.items in
@@ -77,7 +77,7 @@ admit-requires-clause-price g c =
     let k = r.4 in
     let known = c.args.known.now in
     let way = c.args.way.now in
-    let keys = known.graph.discovery.nodes.keys in
+    let keys = g.M.Numbering.keys known.graph.discovery.nodes in
     let steps = known.rows.steps.items in
     let step = c.index-step.result.now in
     let fs = reverse way.trail.items in
@@ -96,7 +96,7 @@ admit-requires-clause-estimate g c = λ e found.
     let k = r.4 in
     let known = c.args.known.now in
     let way = c.args.way.now in
-    let keys = known.graph.discovery.nodes.keys in
+    let keys = g.M.Numbering.keys known.graph.discovery.nodes in
     let steps = known.rows.steps.items in
     let step = c.index-step.result.now in
     let at = step_at eq laws value g.C.Number.fits h r.1 r.2 r.3 keys steps known.rows.spans.items k.rows (length keys) c.requires.whole.table way.frame (reverse way.trail.items) way.cut_off.least way.cut_off.past r.5 c.requires.left step (sym c.index-step.ensures) in
@@ -122,7 +122,7 @@ returns-in_default g c = record {
       let fits = g.C.Number.fits in
       let known = c.args.known.now in
       let way = c.args.way.now in
-      let keys = known.graph.discovery.nodes.keys in
+      let keys = g.M.Numbering.keys known.graph.discovery.nodes in
       let steps = known.rows.steps.items in
       let step = c.index-step.result.now in
       let fs = reverse way.trail.items in
@@ -150,7 +150,7 @@ span_of-requires-clause-inside g c =
     let k = r.4 in
     let known = c.args.known.now in
     let way = c.args.way.now in
-    let keys = known.graph.discovery.nodes.keys in
+    let keys = g.M.Numbering.keys known.graph.discovery.nodes in
     let steps = known.rows.steps.items in
     let step = c.index-step.result.now in
     let at = step_at g.N.PartialEq.eq g.met.N.Eq.laws g.C.Number.value g.C.Number.fits r.0 r.1 r.2 r.3 keys steps known.rows.spans.items k.rows (length keys) c.requires.whole.table way.frame (reverse way.trail.items) way.cut_off.least way.cut_off.past r.5 c.requires.left step (sym c.index-step.ensures) in
@@ -164,7 +164,7 @@ returns-in_ok-enter-in-Some-2 g c = record {
       let k = r.4 in
       let known = c.args.known.now in
       let way = c.args.way.now in
-      let keys = known.graph.discovery.nodes.keys in
+      let keys = g.M.Numbering.keys known.graph.discovery.nodes in
       let steps = known.rows.steps.items in
       let step = c.index-step.result.now in
       let fs = reverse way.trail.items in
@@ -175,8 +175,8 @@ returns-in_ok-enter-in-Some-2 g c = record {
       let grows = c.in_ok-span.ensures.more.grows in
       record {
         marked = subst (λ (ns : List ℕ). (i : ℕ) → IsMarked c.enter.new.self.marks.items i ↔ Contains ns i) (sym frames) (marked_on way.marks.items c.enter.new.self.marks.items (numbers_of (way.frame ∷ fs)) step.0 c.requires.marked.marked e.marked);
-        inside = λ i m. elim (Contains-cases (numbers_of (way.frame ∷ fs)) step.0 i (subst (λ (ns : List ℕ). Contains ns i) frames m)) as (λ _. i < length c.span_of.new.self.graph.discovery.nodes.keys) [
-          | inl q ↦ subst (λ (n : ℕ). n < length c.span_of.new.self.graph.discovery.nodes.keys) q (still_found _ _ _ inside grows.more)
+        inside = λ i m. elim (Contains-cases (numbers_of (way.frame ∷ fs)) step.0 i (subst (λ (ns : List ℕ). Contains ns i) frames m)) as (λ _. i < length (g.M.Numbering.keys c.span_of.new.self.graph.discovery.nodes)) [
+          | inl q ↦ subst (λ (n : ℕ). n < length (g.M.Numbering.keys c.span_of.new.self.graph.discovery.nodes)) q (still_found _ _ _ inside grows.more)
           | inr q ↦ still_found _ _ _ (c.requires.marked.inside i q) grows.more
         ];
         above = λ n q. c.requires.marked.above n (sym c.in-Some.ensures.entered.2 ∙ sym (ap (λ o. o.least) e.cut_off) ∙ q);
@@ -202,7 +202,7 @@ returns-in_ok-enter-in-Some-2 g c = record {
       let fits = g.C.Number.fits in
       let known = c.args.known.now in
       let way = c.args.way.now in
-      let keys = known.graph.discovery.nodes.keys in
+      let keys = g.M.Numbering.keys known.graph.discovery.nodes in
       let steps = known.rows.steps.items in
       let spans = known.rows.spans.items in
       let step = c.index-step.result.now in
@@ -217,11 +217,11 @@ returns-in_ok-enter-in-Some-2 g c = record {
       let within = c.in_ok-span.ensures.more.whole.table.within step.0 s has in
       let e = c.in_ok-enter-in-Some-2.ensures in (
         k2,
-        on_way_as eq laws value fits h test least first after.graph.discovery.nodes.keys after.rows.steps.items after.rows.spans.items k2.rows c.enter.new.self.frame (way.frame ∷ fs) (reverse c.enter.new.self.trail.items) way.cut_off.least c.enter.new.self.cut_off.least way.cut_off.past c.enter.new.self.cut_off.past
+        on_way_as eq laws value fits h test least first (g.M.Numbering.keys after.graph.discovery.nodes) after.rows.steps.items after.rows.spans.items k2.rows c.enter.new.self.frame (way.frame ∷ fs) (reverse c.enter.new.self.trail.items) way.cut_off.least c.enter.new.self.cut_off.least way.cut_off.past c.enter.new.self.cut_off.past
             e.below (ap (λ o. o.least) e.cut_off ∙ c.in-Some.ensures.entered.2) (ap (λ o. o.past) e.cut_off ∙ c.in-Some.ensures.entered.3)
             (went_on eq laws value fits h test least first keys steps spans k.rows k.led.explores.alike k.led.admissible (cheap_positive eq h k.led.costs)
             (λ i x t. InReach-same eq laws h.edges h.starts t.0 x (k.led.explores.reached i t.0 t.1) t.2) (StandsFor-one eq laws keys k.led.explores.distinct) way.frame fs way.cut_off.least way.cut_off.past w c.requires.left step.0 step.1 at
-            (λ i m. begins_all eq laws keys i (c.requires.marked.inside i m)) fresh after.graph.discovery.nodes.keys after.rows.steps.items after.rows.spans.items c.in_ok-span.ensures.more.grows c.in_ok-span.ensures.more.steps c.in_ok-span.ensures.more.spans
+            (λ i m. begins_all eq laws keys i (c.requires.marked.inside i m)) fresh (g.M.Numbering.keys after.graph.discovery.nodes) after.rows.steps.items after.rows.spans.items c.in_ok-span.ensures.more.grows c.in_ok-span.ensures.more.steps c.in_ok-span.ensures.more.spans
             k2.rows c.requires.marked.inside c.enter.new.self.frame s has within.0 (ap (λ (f : Frame g.row.C.Denot). f.number) e.frame) (ap (λ (f : Frame g.row.C.Denot). value f.cost) e.frame ∙ c.in-Some.ensures.entered.0) (ap (λ (f : Frame g.row.C.Denot). f.at) e.frame) (ap (λ (f : Frame g.row.C.Denot). f.end) e.frame)),
       );
   refused = tt;
@@ -235,7 +235,7 @@ returns-in_ok-numbers-in-None g c = record {
       let k = r.4 in
       let known = c.args.known.now in
       let way = c.args.way.now in
-      let keys = known.graph.discovery.nodes.keys in
+      let keys = g.M.Numbering.keys known.graph.discovery.nodes in
       let steps = known.rows.steps.items in
       let step = c.index-step.result.now in
       let fs = reverse way.trail.items in
@@ -243,9 +243,9 @@ returns-in_ok-numbers-in-None g c = record {
       let inside = c.requires.whole.table.inside way.frame.at step.0 step.1 at in
       let grows = c.in_ok-span.ensures.more.grows in
       let numbers : c.in_ok-numbers-in-None.numbers.items ≡ reverse (numbers_of (way.frame ∷ fs)) ++ step.0 ∷ [] = (rw c.deref-in-None.ensures.value at c.in_ok-numbers-in-None.ensures.numbers) ∙ ap (λ (ns : List ℕ). ns ++ step.0 ∷ []) (sym (numbers_up way.frame way.trail.items)) in
-      λ i m. elim (Contains-append_one (reverse (numbers_of (way.frame ∷ fs))) step.0 i (subst (λ (ns : List ℕ). Contains ns i) numbers m)) as (λ _. i < length c.span_of.new.self.graph.discovery.nodes.keys) [
+      λ i m. elim (Contains-append_one (reverse (numbers_of (way.frame ∷ fs))) step.0 i (subst (λ (ns : List ℕ). Contains ns i) numbers m)) as (λ _. i < length (g.M.Numbering.keys c.span_of.new.self.graph.discovery.nodes)) [
         | inl q ↦ still_found _ _ _ (c.requires.marked.inside i (Contains-reverse (numbers_of (way.frame ∷ fs)) i q)) grows.more
-        | inr q ↦ subst (λ (n : ℕ). n < length c.span_of.new.self.graph.discovery.nodes.keys) q (still_found _ _ _ inside grows.more)
+        | inr q ↦ subst (λ (n : ℕ). n < length (g.M.Numbering.keys c.span_of.new.self.graph.discovery.nodes)) q (still_found _ _ _ inside grows.more)
       ];
   less = tt;
   graph = λ h test least first k w.
@@ -255,7 +255,7 @@ returns-in_ok-numbers-in-None g c = record {
       let fits = g.C.Number.fits in
       let known = c.args.known.now in
       let way = c.args.way.now in
-      let keys = known.graph.discovery.nodes.keys in
+      let keys = g.M.Numbering.keys known.graph.discovery.nodes in
       let steps = known.rows.steps.items in
       let spans = known.rows.spans.items in
       let step = c.index-step.result.now in
@@ -275,7 +275,7 @@ returns-in_ok-numbers-in-None g c = record {
         (
           arrived eq laws value fits h test least first keys steps spans k.rows k.led.explores.alike k.led.admissible (cheap_positive eq h k.led.costs)
               (λ i y t. InReach-same eq laws h.edges h.starts t.0 y (k.led.explores.reached i t.0 t.1) t.2) (StandsFor-one eq laws keys k.led.explores.distinct) way.frame fs way.cut_off.least way.cut_off.past w c.requires.left step.0 step.1 at
-              (λ i m. begins_all eq laws keys i (c.requires.marked.inside i m)) fresh after.graph.discovery.nodes.keys after.rows.steps.items after.rows.spans.items c.in_ok-span.ensures.more.grows c.in_ok-span.ensures.more.steps c.in_ok-span.ensures.more.spans
+              (λ i m. begins_all eq laws keys i (c.requires.marked.inside i m)) fresh (g.M.Numbering.keys after.graph.discovery.nodes) after.rows.steps.items after.rows.spans.items c.in_ok-span.ensures.more.grows c.in_ok-span.ensures.more.steps c.in_ok-span.ensures.more.spans
               told.1 c.in_ok-numbers-in-None.numbers.items numbers (value c.in-Some.cost) c.in-Some.ensures.entered.0,
           part_within _ _ _ _ is low below,
         ),
@@ -321,7 +321,7 @@ index-step-requires g c =
     let r = c.requires.graph in
     let known = c.args.known.now in
     let way = c.args.way.now in
-    let keys = known.graph.discovery.nodes.keys in
+    let keys = g.M.Numbering.keys known.graph.discovery.nodes in
     let ends = frame_ends g.N.PartialEq.eq g.met.N.Eq.laws g.C.Number.value g.C.Number.fits r.0 r.1 r.2 r.3 keys known.rows.steps.items known.rows.spans.items r.4.rows (length keys) c.requires.whole.table way.frame (reverse way.trail.items) way.cut_off.least way.cut_off.past r.5 in
     place_inside _ _ _ _ c.requires.left ends.1 known.rows.steps.ok.0
 
@@ -330,7 +330,7 @@ overflow_add-way g c =
     let r = c.requires.graph in
     let known = c.args.known.now in
     let way = c.args.way.now in
-    let keys = known.graph.discovery.nodes.keys in
+    let keys = g.M.Numbering.keys known.graph.discovery.nodes in
     let ends = frame_ends g.N.PartialEq.eq g.met.N.Eq.laws g.C.Number.value g.C.Number.fits r.0 r.1 r.2 r.3 keys known.rows.steps.items known.rows.spans.items r.4.rows (length keys) c.requires.whole.table way.frame (reverse way.trail.items) way.cut_off.least way.cut_off.past r.5 in
     place_fits _ _ _ _ _ c.requires.left ends.1 known.rows.steps.ok known.rows.steps.small
 
@@ -339,6 +339,6 @@ overflow_add-way-in_default g c =
     let r = c.requires.graph in
     let known = c.args.known.now in
     let way = c.args.way.now in
-    let keys = known.graph.discovery.nodes.keys in
+    let keys = g.M.Numbering.keys known.graph.discovery.nodes in
     let ends = frame_ends g.N.PartialEq.eq g.met.N.Eq.laws g.C.Number.value g.C.Number.fits r.0 r.1 r.2 r.3 keys known.rows.steps.items known.rows.spans.items r.4.rows (length keys) c.requires.whole.table way.frame (reverse way.trail.items) way.cut_off.least way.cut_off.past r.5 in
     place_fits _ _ _ _ _ c.requires.left ends.1 known.rows.steps.ok known.rows.steps.small

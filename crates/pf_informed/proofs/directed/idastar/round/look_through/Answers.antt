@@ -18,7 +18,7 @@ turns-init g c =
     let value = g.C.Number.value in
     let fits = g.C.Number.fits in
     let after = c.span_of.new.self in
-    let keys = after.graph.discovery.nodes.keys in
+    let keys = g.M.Numbering.keys after.graph.discovery.nodes in
     let e = c.in_ok-span.ensures in
     let s = c.in-Some.span in
     let has = rw c.in-Some.is at e.kept in
@@ -137,7 +137,7 @@ returns-in_default g c = record {
       let eq = g.N.PartialEq.eq in
       let laws = g.met.N.Eq.laws in
       let value = g.C.Number.value in
-      let keys = c.span_of.new.self.graph.discovery.nodes.keys in
+      let keys = g.M.Numbering.keys c.span_of.new.self.graph.discovery.nodes in
       let told = rw c.in_default.is at (c.in_ok-span.ensures.graph h test least k) in
       let here = c.in_ok-span.ensures.more.grows.stays 0 first s in
       let nothing : value c.zero-nothing.result ≡ pos 0 = ap value c.zero-nothing.ensures ∙ g.met.C.Zero.zero_law g.met.C.Integral.exact_law in
@@ -146,7 +146,7 @@ returns-in_default g c = record {
   more = c.in_ok-span.ensures.more;
   refused = tt;
   round = λ i m.
-      let keys = c.span_of.new.self.graph.discovery.nodes.keys in
+      let keys = g.M.Numbering.keys c.span_of.new.self.graph.discovery.nodes in
       elim (Contains-cases [] 0 i (subst (λ (ns : List ℕ). Contains ns i) c.in_ok-numbers.ensures.numbers m)) as (λ _. i < length keys) [
         | inl q ↦ subst (λ (n : ℕ). n < length keys) q (still_found _ _ _ c.requires.begun c.in_ok-span.ensures.more.grows.more)
         | inr q ↦ absurd (none_below _ q.1)

@@ -19,7 +19,7 @@ leave-requires-clause-room g c =
     let k = r.4 in
     let known = c.args.known.now in
     let way = c.args.way.now in
-    room g.N.PartialEq.eq g.met.N.Eq.laws g.C.Number.value g.C.Number.fits r.0 r.1 r.2 r.3 known.graph.discovery.nodes.keys known.rows.steps.items known.rows.spans.items k.rows way.frame (reverse way.trail.items) way.cut_off.least way.cut_off.past r.5
+    room g.N.PartialEq.eq g.met.N.Eq.laws g.C.Number.value g.C.Number.fits r.0 r.1 r.2 r.3 (g.M.Numbering.keys known.graph.discovery.nodes) known.rows.steps.items known.rows.spans.items k.rows way.frame (reverse way.trail.items) way.cut_off.least way.cut_off.past r.5
 
 pub returns-then-leave : goal.returns-then-leave
 returns-then-leave g c = record {
@@ -45,7 +45,7 @@ returns-then-leave g c = record {
       let way = c.args.way.now in
       let new = c.leave.new.self in
       let b = c.if-leave.ensures.below in
-      let at = room g.N.PartialEq.eq g.met.N.Eq.laws g.C.Number.value g.C.Number.fits r.0 r.1 r.2 r.3 known.graph.discovery.nodes.keys known.rows.steps.items known.rows.spans.items k.rows way.frame (reverse way.trail.items) way.cut_off.least way.cut_off.past r.5 b.0 b.1 b.2 in
+      let at = room g.N.PartialEq.eq g.met.N.Eq.laws g.C.Number.value g.C.Number.fits r.0 r.1 r.2 r.3 (g.M.Numbering.keys known.graph.discovery.nodes) known.rows.steps.items known.rows.spans.items k.rows way.frame (reverse way.trail.items) way.cut_off.least way.cut_off.past r.5 b.0 b.1 b.2 in
       let less = left_less 18446744073709551616 18446744073709551616 some_turns way.frame b.0 b.1 at in
       subst (λ (f : Frame g.row.C.Denot). turns_left 18446744073709551616 18446744073709551616 f (reverse new.trail.items) < turns_left 18446744073709551616 18446744073709551616 way.frame (reverse way.trail.items)) (sym b.3)
       (subst (λ (xs : List (Frame g.row.C.Denot)). turns_left 18446744073709551616 18446744073709551616 (record b.0 { at = b.0.at + 1 }) xs < turns_left 18446744073709551616 18446744073709551616 way.frame (reverse way.trail.items)) (sym b.4)
@@ -58,7 +58,7 @@ returns-then-leave g c = record {
       let known = c.args.known.now in
       let way = c.args.way.now in
       let new = c.leave.new.self in
-      let keys = known.graph.discovery.nodes.keys in
+      let keys = g.M.Numbering.keys known.graph.discovery.nodes in
       let steps = known.rows.steps.items in
       let spans = known.rows.spans.items in
       let fs = reverse way.trail.items in
@@ -86,7 +86,7 @@ returns-else-leave g c = record {
       let known = c.args.known.now in
       let way = c.args.way.now in
       let new = c.leave.new.self in
-      let keys = known.graph.discovery.nodes.keys in
+      let keys = g.M.Numbering.keys known.graph.discovery.nodes in
       let steps = known.rows.steps.items in
       let spans = known.rows.spans.items in
       let fs = reverse way.trail.items in

@@ -7,7 +7,7 @@ use Rattle.pf_informed.proofs.directed.idastar.known.Known.new.Goals as goal
 pub returns : goal.returns
 returns g c =
     let rows = c.new-2.result in
-    let keys = c.args.graph.discovery.nodes.keys in
+    let keys = g.M.Numbering.keys c.args.graph.discovery.nodes in
     let none = c.new.ensures.items in
     record {
       graph = refl;

@@ -47,8 +47,8 @@ returns-then-is_goal g c = record {
       let eq = g.N.PartialEq.eq in
       let laws = g.met.N.Eq.laws in
       let value = g.C.Number.value in
-      let keys = c.args.self.now.graph.discovery.nodes.keys in
-      let now = c.is_goal.new.self.discovery.nodes.keys in
+      let keys = g.M.Numbering.keys c.args.self.now.graph.discovery.nodes in
+      let now = g.M.Numbering.keys c.is_goal.new.self.discovery.nodes in
       let told = c.is_goal.ensures.graph (with_test h test) (k.led.explores, k.led.tested) in
       let grows = c.is_goal.ensures.grows in (
         record {
@@ -76,8 +76,8 @@ ask-requires-clause-graph g c =
 pub returns : goal.returns
 returns g c = record {
   more =
-      let keys = c.args.self.now.graph.discovery.nodes.keys in
-      let after = c.expand.new.self.discovery.nodes.keys in
+      let keys = g.M.Numbering.keys c.args.self.now.graph.discovery.nodes in
+      let after = g.M.Numbering.keys c.expand.new.self.discovery.nodes in
       let grows = Grows-trans _ _ _ _ _ _ c.is_goal.ensures.grows c.in_ok-expand.ensures.grows in
       let row = c.in_ok-expand.ensures.listed in
       let e = c.in_ok-span.ensures in
@@ -99,9 +99,9 @@ returns g c = record {
       let eq = g.N.PartialEq.eq in
       let laws = g.met.N.Eq.laws in
       let value = g.C.Number.value in
-      let keys = c.args.self.now.graph.discovery.nodes.keys in
-      let between = c.is_goal.new.self.discovery.nodes.keys in
-      let after = c.expand.new.self.discovery.nodes.keys in
+      let keys = g.M.Numbering.keys c.args.self.now.graph.discovery.nodes in
+      let between = g.M.Numbering.keys c.is_goal.new.self.discovery.nodes in
+      let after = g.M.Numbering.keys c.expand.new.self.discovery.nodes in
       let told = c.is_goal.ensures.graph (with_test h test) (k.led.explores, k.led.tested) in
       let x = c.in_ok-expand.ensures.graph (with_test h test) told.0 in
       let grows = Grows-trans _ _ _ _ _ _ c.is_goal.ensures.grows c.in_ok-expand.ensures.grows in
@@ -162,7 +162,7 @@ pub is_goal-requires-clause-inside : goal.is_goal-requires-clause-inside
 is_goal-requires-clause-inside g c = c.requires.inside
 
 pub ask-requires-clause-few : goal.ask-requires-clause-few
-ask-requires-clause-few g c = subst (λ (n : ℕ). n ≤ length c.expand.new.self.discovery.nodes.keys) (sym (c.requires.whole.asked ∙ sym c.is_goal.ensures.same)) c.in_ok-expand.ensures.grows.more
+ask-requires-clause-few g c = subst (λ (n : ℕ). n ≤ length (g.M.Numbering.keys c.expand.new.self.discovery.nodes)) (sym (c.requires.whole.asked ∙ sym c.is_goal.ensures.same)) c.in_ok-expand.ensures.grows.more
 
 pub expand-requires-clause-inside : goal.expand-requires-clause-inside
 expand-requires-clause-inside g c = subst (λ (n : ℕ). c.args.number < n) (sym c.is_goal.ensures.same) c.requires.inside

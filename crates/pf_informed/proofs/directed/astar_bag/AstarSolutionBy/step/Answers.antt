@@ -7,7 +7,7 @@ use Rattle.pf_informed.proofs.WayLaws.{HasNode_of}
 use Rattle.pf_informed.proofs.SolutionLemmas.{turn_refused}
 use Rattle.pf_informed.proofs.WaysLemmas.{kept_dropped, not_idle, some_wait}
 use Rattle.pf_informed.proofs.Bounds.{below_more}
-use Rattle.pf_informed.proofs.directed.astar_bag.AstarSolution.step.Goals as goal
+use Rattle.pf_informed.proofs.directed.astar_bag.AstarSolutionBy.step.Goals as goal
 
 pub clones_at-requires-clause-inside : goal.clones_at-requires-clause-inside
 clones_at-requires-clause-inside g c = λ k h.
@@ -32,7 +32,7 @@ returns-clause-turn g c =
     let d = c.drop_branch.ensures in
     let w = d.waiting s.0 s.1 s.2 in
     let same = d.before ∙ f.before in
-    let keys = c.self.inside.nodes.keys in
+    let keys = g.M.Numbering.keys c.self.inside.nodes in
     let way = c.find.new.self.way.items in
     let inside : (j : ℕ) → HasNode nat_eq way j → j < length keys = λ j h. let kept = f.kept in below_more _ _ _ (kept.inside j h) c.self.invariant.1 in
     rw (← c.self.view_is, same, d.way, w) (
@@ -60,18 +60,18 @@ pub returns-then-not-branch-clause-turn : goal.returns-then-not-branch-clause-tu
 returns-then-not-branch-clause-turn g c =
     let f = c.in_ok-find.ensures in
     let none = rw c.if-not-branch.true at f.whole in
-    let keys = c.self.inside.nodes.keys in
+    let keys = g.M.Numbering.keys c.self.inside.nodes in
     rw (← c.self.view_is, f.before) (ap (paths_of keys) (sym (rw none at f.left)), ap (paths_of keys) f.left, ap nothing_waits none)
 
 pub returns-in_err-find-clause-turn : goal.returns-in_err-find-clause-turn
 returns-in_err-find-clause-turn g c =
     let f = c.in_err-find.ensures in
-    let keys = c.self.inside.nodes.keys in
+    let keys = g.M.Numbering.keys c.self.inside.nodes in
     rw (← c.self.view_is, f.before) (turn_refused g.N.PartialEq.eq _ _ c.self.inside.refused _ _ c.from_residual.result _ c.from_residual.ensures.1 (ap (paths_of keys) f.left) (not_idle _ (λ none. (let both = f.idle none in cc))) (not_idle _ f.waits))
 
 pub returns-in_err-path-clause-turn : goal.returns-in_err-path-clause-turn
 returns-in_err-path-clause-turn g c =
     let f = c.in_ok-find.ensures in
     let s = rw c.if-not-branch.false at f.whole in
-    let keys = c.self.inside.nodes.keys in
+    let keys = g.M.Numbering.keys c.self.inside.nodes in
     rw (← c.self.view_is, f.before) (turn_refused g.N.PartialEq.eq _ _ c.self.inside.refused _ _ c.from_residual-in_err-path.result _ c.from_residual-in_err-path.ensures.1 (ap (paths_of keys) f.left) (not_idle _ (λ none. (let both = rw c.if-not-branch.false at f.idle none in cc))) (not_idle _ (λ none. some_wait s.0 s.1 (sym s.2 ∙ none))))

@@ -1,7 +1,7 @@
 use Rattle.std.proofs.Common.{sym, ap, ◌∙◌}
 use Rattle.pf_informed.specs.CheapestPaths.{PathsToCome}
 use Rattle.pf_informed.proofs.SolutionLemmas.{step_of, progress}
-use Rattle.pf_informed.proofs.directed.astar_bag.AstarSolutionIterator.next.Goals as goal
+use Rattle.pf_informed.proofs.directed.astar_bag.AstarSolutionByIterator.next.Goals as goal
 
 pub returns-clause-steps : goal.returns-clause-steps
 returns-clause-steps g c =
