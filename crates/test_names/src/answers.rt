@@ -64,6 +64,8 @@ pub enum Call {
     EstimatedDepth,
     /// `astar_bag_collect`.
     EstimatedAll,
+    /// `astar_bag`.
+    EstimatedWays,
     /// `strongly_connected_component`.
     Component,
     /// `strongly_connected_components`.
@@ -221,9 +223,11 @@ pub fn is_right<'h>(
         Call::Deepened => is_path(iddfs(heap, places, &"a", &"d"), &["a", "b", "d"]),
         Call::Loop => is_path(bfs_loop(heap, places, &"b"), &["b", "c", "a", "b"]),
         Call::Levels | Call::Meeting => is_met(heap, places, call),
-        Call::Estimated | Call::Fringe | Call::EstimatedDepth | Call::EstimatedAll => {
-            is_guided(heap, places, call)
-        }
+        Call::Estimated
+        | Call::Fringe
+        | Call::EstimatedDepth
+        | Call::EstimatedAll
+        | Call::EstimatedWays => is_guided(heap, places, call),
         Call::BreadthWalk => is_breadth(heap, places),
         Call::PreorderWalk => is_preorder(heap, places),
         Call::CostWalk => is_by_cost(heap, places),

@@ -1,12 +1,13 @@
 //! Searches from both ends, and searches that estimates lead.
 
 use crate::answers::{Call, Heap, Places, ROUND, are_places, is_path};
+use crate::walks::{Seen, see_ways};
 use pf_adjacency::BothWays;
 use pf_base::PathError;
 use pf_edge_lists::EdgeList;
 use pf_name_both_ends::{bfs_bidirectional, dijkstra_bidirectional};
 use pf_name_estimates::{
-    NameEstimateError, NameEstimates, astar, astar_bag_collect, fringe, idastar,
+    NameEstimateError, NameEstimates, astar, astar_bag, astar_bag_collect, fringe, idastar,
 };
 use std::alloc::{AllocError, Global};
 
@@ -36,6 +37,18 @@ fn is_only_cheapest(
     Ok(paths.len() == 1 && is_first)
 }
 
+/// Whether the cheapest path alone comes, also behind a step that is refused.
+fn is_only_way<'h>(heap: Heap<'h>, estimates: &Guides<'_, 'h>) -> Result<bool, PathError> {
+    let Some((mut paths, cost)) = astar_bag(heap, estimates, &"a")? else {
+        return Ok(false);
+    };
+    let mut seen = Seen::new(&["b"]);
+    see_ways(&mut paths, &mut seen);
+    paths.resume();
+    see_ways(&mut paths, &mut seen);
+    Ok(seen.answer()? && cost == 6)
+}
+
 /// Whether a search from both ends answers the only right answer.
 pub fn is_met<'h>(heap: Heap<'h>, places: &Places<'_, 'h>, call: Call) -> Result<bool, PathError> {
     let both = BothWays::new(heap, places)?;
@@ -51,6 +64,7 @@ fn is_led<'h>(heap: Heap<'h>, estimates: &Guides<'_, 'h>, call: Call) -> Result<
         Call::Estimated => is_cheapest(astar(heap, estimates, &"a")),
         Call::Fringe => is_cheapest(fringe(heap, estimates, &"a")),
         Call::EstimatedDepth => is_cheapest(idastar(heap, estimates, &"a")),
+        Call::EstimatedWays => is_only_way(heap, estimates),
         _ => is_only_cheapest(astar_bag_collect(heap, estimates, &"a")),
     }
 }

@@ -24,6 +24,7 @@ pub const CALLS: &[Call] = &[
     Call::Fringe,
     Call::EstimatedDepth,
     Call::EstimatedAll,
+    Call::EstimatedWays,
     Call::Component,
     Call::Components,
     Call::Order,

@@ -8,7 +8,7 @@ use pf_search::directed::dijkstra::DijkstraReachableItem;
 
 /// What came of a walk so far, beside the places that are to come.
 #[derive(Drop)]
-struct Seen {
+pub struct Seen {
     names: &'static [&'static str],
     count: usize,
     is_right: bool,
@@ -16,7 +16,7 @@ struct Seen {
 }
 
 impl Seen {
-    fn new(names: &'static [&'static str]) -> Seen {
+    pub fn new(names: &'static [&'static str]) -> Seen {
         Seen {
             names,
             count: 0,
@@ -38,7 +38,7 @@ impl Seen {
     }
 
     /// Whether just these places came; or the refusal, where they came behind one.
-    fn answer(&self) -> Result<bool, PathError> {
+    pub fn answer(&self) -> Result<bool, PathError> {
         let is_right = self.is_right && self.count == self.names.len();
         match self.refusal {
             Some(refusal) if is_right => Err(refusal),
@@ -93,6 +93,24 @@ where
         }
     }
     sum
+}
+
+/// Goes along paths without costs likewise.
+pub fn see_ways<'p, 'r: 'p, 'h, W>(walk: &mut W, seen: &mut Seen)
+where
+    W: Iterator<Item = Result<Vec<&'p &'r str, Heap<'h>>, PathError>>,
+    requires { W.can_next walk.old }
+{
+    for step in walk.by_ref().take(100) {
+        match &step {
+            Ok(path) => {
+                if let Some(place) = path.get(1) {
+                    seen.note(Ok(**place));
+                }
+            }
+            Err(refusal) => seen.note(Err(*refusal)),
+        }
+    }
 }
 
 /// Whether the places in reach of `a` come in breadth order.
