@@ -2,7 +2,7 @@
 use Rattle.std.proofs.Common.{◌≡◌, ℕ, zero, suc, ◌+◌, ◌≤◌, Bool, true, false, cond, Option, Some, None, List, [], ◌∷◌, ◌∙◌, length, refl, sym, ap, subst, arith, inl, inr, true≢false}
 use Rattle.std.specs.Cmp.{IsEquivalence}
 use Rattle.std.specs.List.{IsDistinct}
-use Rattle.std.specs.Prelude.{◌↔◌, ◌<◌, Contains, slice_get, map, if◌then◌else◌}
+use Rattle.std.specs.Prelude.{◌↔◌, Contains, slice_get, map, if◌then◌else◌}
 use Rattle.std.proofs.lemmas.List.Sums.{sum_by-cons}
 use Rattle.pf_base.specs.Answers.{SameNodes}
 use Rattle.pf_base.specs.NodeRefs.{HasSameNodes}
