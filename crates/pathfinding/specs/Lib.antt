@@ -41,6 +41,7 @@ pub use Rattle.pf_adjacency.specs.NumberedEdges
 pub use Rattle.pf_adjacency.specs.EdgeFaults
 pub use Rattle.pf_adjacency.specs.Reverses
 pub use Rattle.pf_edge_lists.specs.EdgeLists
+pub use Rattle.pf_name_estimates.specs.CheapestPathsByName
 pub use Rattle.pf_name_numbers.specs.Numbered
 pub use Rattle.pf_name_orders.specs.NameGroups
 pub use Rattle.pf_name_paths.specs.NamedPaths

@@ -6,8 +6,8 @@ pub use pf_edge_lists::{EdgeList, EdgeListError};
 pub use pf_table_both_ends::{bfs_bidirectional, dijkstra_bidirectional};
 pub use pf_table_breadth::bfs;
 pub use pf_table_estimates::{
-    BoardEstimates, EstimateError, EstimatedGraph, Estimates, astar, astar_bag, astar_bag_collect,
-    fringe, idastar,
+    AstarSolution, BoardEstimates, EstimateError, EstimatedGraph, Estimates, astar, astar_bag,
+    astar_bag_collect, fringe, idastar,
 };
 pub use pf_table_orders::{
     strongly_connected_component, strongly_connected_components, topological_sort,

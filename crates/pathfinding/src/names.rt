@@ -4,7 +4,8 @@
 pub use pf_flow_networks::FlowNetwork;
 pub use pf_name_both_ends::{bfs_bidirectional, dijkstra_bidirectional};
 pub use pf_name_estimates::{
-    NameEstimateError, NameEstimates, astar, astar_bag_collect, fringe, idastar,
+    AstarSolution, NameEstimateError, NameEstimates, astar, astar_bag, astar_bag_collect, fringe,
+    idastar,
 };
 pub use pf_name_orders::{
     strongly_connected_component, strongly_connected_components, topological_sort,

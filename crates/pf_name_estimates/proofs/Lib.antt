@@ -1,3 +1,4 @@
 pub mod OverflowNames
 pub mod CheapestPathNames
 pub mod SearchNames
+mod NamedSteps

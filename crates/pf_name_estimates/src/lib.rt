@@ -4,7 +4,10 @@
 
 mod paths;
 mod searches;
+mod solutions;
+mod steps;
 
 pub use crate::paths::astar_bag_collect;
 pub use crate::searches::{astar, fringe, idastar};
+pub use crate::solutions::{AstarSolution, astar_bag};
 pub use pf_estimated_names::{NameEstimateError, NameEstimates};
