@@ -1,1 +1,1 @@
-mod TableBegins
+pub mod TableAnswers

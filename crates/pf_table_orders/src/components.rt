@@ -4,12 +4,12 @@ ghost use Rattle.std.specs.Prelude.{◌≡◌, IfOk, IfErr, nat_eq};
 ghost use Rattle.pf_orders.specs.StrongComponents.{AreStrongComponents, IsStrongComponentOf, lists_of};
 ghost use Rattle.pf_tables.specs.Graphs.{successors_of};
 
-use crate::discovery::discovery_of;
 use pf_base::{Cost, PathError};
 use pf_orders::directed::strongly_connected_components;
 use pf_orders::discovered::{component_of, components_of};
+use pf_table_functions::discovery::hop_discovery;
 use pf_table_functions::edges::ends_of;
-use pf_table_functions::table_nodes::table_nodes_of;
+use pf_table_functions::table_nodes::{TableNodes, table_nodes_of};
 use pf_tables::Graph;
 use std::alloc::Allocator;
 
@@ -39,7 +39,7 @@ where
     ensures errors { IfErr result (λ e. e ≡ PathError.OutOfMemory) }
 {
     match table_nodes_of(alloc, graph.len(), nodes)? {
-        Some(found) => components_of(alloc, discovery_of(graph, found)),
+        Some(found) => components_of(alloc, hop_discovery(graph, found)),
         None => strongly_connected_components::strongly_connected_components(
             alloc,
             nodes,
@@ -68,12 +68,6 @@ where
     ensures component { IfOk result (λ component. IsStrongComponentOf nat_eq (successors_of C.value (G.size graph.now) (G.places graph.now)) node component.items) }
     ensures errors { IfErr result (λ e. e ≡ PathError.OutOfMemory) }
 {
-    match table_nodes_of(alloc, graph.len(), &[node])? {
-        Some(found) => component_of(alloc, discovery_of(graph, found)),
-        None => strongly_connected_components::strongly_connected_component(
-            alloc,
-            &node,
-            |n: &usize| ends_of(graph, *n),
-        ),
-    }
+    let nodes = TableNodes::begin(alloc, graph.len(), node)?;
+    component_of(alloc, hop_discovery(graph, nodes))
 }

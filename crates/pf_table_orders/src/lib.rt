@@ -3,7 +3,6 @@
 #![tactic(auto)]
 
 mod components;
-mod discovery;
 mod orders;
 
 pub use crate::components::{strongly_connected_component, strongly_connected_components};

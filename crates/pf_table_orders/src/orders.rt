@@ -7,10 +7,10 @@ ghost use Rattle.pf_orders.specs.GroupDepths.{AreClosed, HasDepth, AreDepthGroup
 ghost use Rattle.pf_orders.specs.TopologicalOrders.{IsTopologicalOrder, IsOnCycle};
 ghost use Rattle.pf_tables.specs.Graphs.{successors_of};
 
-use crate::discovery::discovery_of;
 use pf_base::{Cost, PathError, Tally};
 use pf_orders::directed::topological_sort;
 use pf_orders::discovered::{groups_in, order_in};
+use pf_table_functions::discovery::hop_discovery;
 use pf_table_functions::edges::ends_of;
 use pf_table_functions::table_nodes::table_nodes_of;
 use pf_tables::Graph;
@@ -43,7 +43,7 @@ where
     ensures errors { IfErr result (λ e. e ≡ PathError.OutOfMemory) }
 {
     match table_nodes_of(alloc, graph.len(), roots)? {
-        Some(found) => order_in(alloc, &mut discovery_of(graph, found), &mut Tally::new()),
+        Some(found) => order_in(alloc, &mut hop_discovery(graph, found), &mut Tally::new()),
         None => topological_sort::topological_sort(alloc, roots, |n: &usize| ends_of(graph, *n)),
     }
 }
@@ -82,7 +82,7 @@ where
     ensures errors { IfErr result (λ e. (e ≡ PathError.OutOfMemory) ⊎ (e ≡ PathError.UnknownVertex)) }
 {
     match table_nodes_of(alloc, graph.len(), nodes)? {
-        Some(found) => groups_in(alloc, &mut discovery_of(graph, found)),
+        Some(found) => groups_in(alloc, &mut hop_discovery(graph, found)),
         None => topological_sort::topological_sort_into_groups(
             alloc,
             nodes,

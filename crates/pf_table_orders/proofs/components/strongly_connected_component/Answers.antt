@@ -1,40 +1,21 @@
-use Rattle.std.proofs.Common.{rules, [], ◌∷◌}
-use Rattle.std.proofs.lemmas.Iterator.Consumers.{YieldsList-from_first}
-use Rattle.pf_base.proofs.Sources.{gives_chain}
+use Rattle.std.proofs.Common.{[], ◌∷◌}
 use Rattle.pf_tables.specs.Graphs.{successors_of}
-use Rattle.pf_table_functions.proofs.EdgeLemmas.{table_successors}
-use Rattle.pf_table_orders.proofs.TableBegins.{table_begins}
+use Rattle.pf_table_functions.proofs.TableExplores.{table_hops, one_distinct, same_nodes}
 use Rattle.pf_table_orders.proofs.components.strongly_connected_component.Goals as goal
 
 pub component_of-requires-clause-graph : goal.component_of-requires-clause-graph
 component_of-requires-clause-graph g c =
-    let size = g.G.Graph.size in
-    let places = g.G.Graph.places in
+    let value = g.C.Number.value in
     let table = c.args.graph.now in
-    let e = c.in_ok-found.ensures in
-    (c.args.node, successors_of g.C.Number.value (size table) (places table), rw c.discovery_of.ensures (table_begins g.C.Number.value size places table (c.args.node ∷ []) c.in-Some.found (rw c.in-Some.is at e.distinct) (rw c.in-Some.is at e.same)))
-
-pub returns-in-Some-clause-component : goal.returns-in-Some-clause-component
-returns-in-Some-clause-component g c =
-    let size = g.G.Graph.size in
-    let places = g.G.Graph.places in
-    let table = c.args.graph.now in
-    let e = c.in_ok-found.ensures in
-    c.component_of.ensures.component c.args.node (successors_of g.C.Number.value (size table) (places table)) (rw c.discovery_of.ensures (table_begins g.C.Number.value size places table (c.args.node ∷ []) c.in-Some.found (rw c.in-Some.is at e.distinct) (rw c.in-Some.is at e.same)))
-
-pub strongly_connected_component-requires-clause-graph : goal.strongly_connected_component-requires-clause-graph
-strongly_connected_component-requires-clause-graph g c =
-    let size = g.G.Graph.size c.args.graph.now in
-    let places = g.G.Graph.places c.args.graph.now in (
-      successors_of g.C.Number.value size places,
-      table_successors g.C.Number.value size places (λ x w. search rules)
-          (λ x r t w k. (search rules, gives_chain (λ it b. (search rules, search rules, YieldsList-from_first (λ e. e) (λ es. es) _ (search rules))))),
+    let starts = c.args.node ∷ [] in (
+      c.args.node,
+      successors_of value (g.G.Graph.size table) (g.G.Graph.places table),
+      rw (c.hop_discovery.ensures, c.in_ok-nodes.ensures.one) (record { same = same_nodes starts; explores = table_hops value g.G.Graph.size g.G.Graph.places table starts starts (one_distinct c.args.node) (same_nodes starts) }),
     )
 
-pub returns-in-None-clause-component : goal.returns-in-None-clause-component
-returns-in-None-clause-component g c =
-    let size = g.G.Graph.size c.args.graph.now in
-    let places = g.G.Graph.places c.args.graph.now in
-    c.strongly_connected_component.ensures.component (successors_of g.C.Number.value size places)
-    (table_successors g.C.Number.value size places (λ x w. search rules)
-    (λ x r t w k. (search rules, gives_chain (λ it b. (search rules, search rules, YieldsList-from_first (λ e. e) (λ es. es) _ (search rules))))))
+pub returns : goal.returns
+unfolding component_of-requires-clause-graph
+returns g c =
+    let p = component_of-requires-clause-graph g c.before in
+    let e = c.component_of.ensures in
+    record { component = e.component p.0 p.1 p.2; errors = e.refused }

@@ -1,40 +1,37 @@
-use Rattle.std.proofs.Common.{rules}
-use Rattle.std.proofs.lemmas.Iterator.Consumers.{YieldsList-from_first}
-use Rattle.pf_base.proofs.Sources.{gives_chain}
+use Rattle.std.proofs.Common.{rules, ap}
 use Rattle.pf_tables.specs.Graphs.{successors_of}
-use Rattle.pf_table_functions.proofs.EdgeLemmas.{table_successors}
-use Rattle.pf_table_orders.proofs.TableBegins.{table_begins}
+use Rattle.pf_table_orders.proofs.TableAnswers.{closure_successors, discovery_begins}
 use Rattle.pf_table_orders.proofs.components.strongly_connected_components.Goals as goal
 
 pub components_of-requires-clause-graph : goal.components_of-requires-clause-graph
 components_of-requires-clause-graph g c =
-    let size = g.G.Graph.size in
-    let places = g.G.Graph.places in
+    let value = g.C.Number.value in
     let table = c.args.graph.now in
     let e = c.in_ok-found.ensures in
-    (c.args.nodes.now, successors_of g.C.Number.value (size table) (places table), rw c.discovery_of.ensures (table_begins g.C.Number.value size places table c.args.nodes.now c.in-Some.found (rw c.in-Some.is at e.distinct) (rw c.in-Some.is at e.same)))
+    (c.args.nodes.now, successors_of value (g.G.Graph.size table) (g.G.Graph.places table), discovery_begins value g.G.Graph.size g.G.Graph.places table c.hop_discovery.ensures c.in-Some.is e.distinct e.same)
 
-pub returns-in-Some-clause-components : goal.returns-in-Some-clause-components
-returns-in-Some-clause-components g c =
-    let size = g.G.Graph.size in
-    let places = g.G.Graph.places in
+pub returns-in-Some : goal.returns-in-Some
+returns-in-Some g c =
+    let value = g.C.Number.value in
     let table = c.args.graph.now in
-    let e = c.in_ok-found.ensures in
-    c.components_of.ensures.components c.args.nodes.now (successors_of g.C.Number.value (size table) (places table)) (rw c.discovery_of.ensures (table_begins g.C.Number.value size places table c.args.nodes.now c.in-Some.found (rw c.in-Some.is at e.distinct) (rw c.in-Some.is at e.same)))
+    let starts = c.args.nodes.now in
+    let next = successors_of value (g.G.Graph.size table) (g.G.Graph.places table) in
+    let found = c.in_ok-found.ensures in
+    let begins = discovery_begins value g.G.Graph.size g.G.Graph.places table c.hop_discovery.ensures c.in-Some.is found.distinct found.same in
+    let e = c.components_of.ensures in
+    record { components = e.components starts next begins; errors = e.refused }
 
 pub strongly_connected_components-requires-clause-graph : goal.strongly_connected_components-requires-clause-graph
 strongly_connected_components-requires-clause-graph g c =
     let size = g.G.Graph.size c.args.graph.now in
-    let places = g.G.Graph.places c.args.graph.now in (
-      successors_of g.C.Number.value size places,
-      table_successors g.C.Number.value size places (λ x w. search rules)
-          (λ x r t w k. (search rules, gives_chain (λ it b. (search rules, search rules, YieldsList-from_first (λ e. e) (λ es. es) _ (search rules))))),
-    )
+    let places = g.G.Graph.places c.args.graph.now in
+    (successors_of g.C.Number.value size places, closure_successors g.C.Number.value size places (λ x w. tt) (λ x r t w k. (ap (λ (q : _). (q, record {})) k.met.1, search rules)))
 
-pub returns-in-None-clause-components : goal.returns-in-None-clause-components
-returns-in-None-clause-components g c =
+pub returns-in-None : goal.returns-in-None
+returns-in-None g c =
     let size = g.G.Graph.size c.args.graph.now in
     let places = g.G.Graph.places c.args.graph.now in
-    c.strongly_connected_components.ensures.components (successors_of g.C.Number.value size places)
-    (table_successors g.C.Number.value size places (λ x w. search rules)
-    (λ x r t w k. (search rules, gives_chain (λ it b. (search rules, search rules, YieldsList-from_first (λ e. e) (λ es. es) _ (search rules))))))
+    let next = successors_of g.C.Number.value size places in
+    let e = c.strongly_connected_components.ensures in
+    let shown = e.components next (closure_successors g.C.Number.value size places (λ x w. tt) (λ x r t w k. (ap (λ (q : _). (q, record {})) k.met.1, search rules))) in
+    record { components = shown; errors = e.errors }
