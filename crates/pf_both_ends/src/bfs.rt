@@ -9,8 +9,8 @@ use crate::discovered::fewest_edges_path;
 use pf_base::{PathError, SuccessorFunction};
 use pf_discovery::discovery::{Discovery, clones_of};
 use pf_discovery::source::Unweighted;
-use pf_two_sided::two_sided::TwoSided;
 use pf_node_refs::NodeRefs;
+use pf_two_sided::two_sided::TwoSided;
 use std::alloc::Allocator;
 use std::hash::Hash;
 

@@ -6,9 +6,9 @@ ghost use Rattle.pf_base.specs.Successors.{IsFewestEdgesOrNone};
 ghost use Rattle.pf_state_spaces.specs.StateSpaces.{successors_by};
 
 use pf_base::{Cost, PathError};
+use pf_node_refs::NodeRefs;
 use pf_state_spaces::moves::successors_of;
 use pf_state_spaces::{Exact, StateGoal, StateSpace};
-use pf_node_refs::NodeRefs;
 use std::alloc::Allocator;
 use std::hash::Hash;
 

@@ -8,13 +8,13 @@ ghost use Rattle.pf_tables.specs.Graphs.{successors_of};
 
 use pf_base::{Cost, PathError};
 use pf_discovery::numbering::Numbering;
+use pf_node_refs::NodeRefs;
 use pf_search::directed::bfs;
 use pf_search::discovered::loop_from;
 use pf_table_functions::discovery::hop_discovery;
 use pf_table_functions::edges::ends_of;
 use pf_table_functions::table_nodes::TableNodes;
 use pf_tables::Graph;
-use pf_node_refs::NodeRefs;
 use std::alloc::Allocator;
 
 /// These nodes of a table with `size` nodes, each once, or `None` where one of them is no node of it.

@@ -8,8 +8,8 @@ use crate::plain::{Lists, PlainCall, plain};
 use pf_base::{Cost, PathError};
 use pf_both_ends::{bfs_bidirectional, dijkstra_bidirectional};
 use pf_components::connected_components::{SetIn, connected_components};
-use pf_orders::directed::topological_sort::topological_sort_into_groups;
 use pf_node_refs::NodeRefs;
+use pf_orders::directed::topological_sort::topological_sort_into_groups;
 use std::alloc::Global;
 use test_edge_lists::{edges_from, edges_to, nodes_after, nodes_before};
 

@@ -7,6 +7,7 @@ ghost use Rattle.pf_base.specs.Successors.{IsUnweightedSearch};
 
 use crate::walks::all_of;
 use pf_base::{NodeTest, PathError, SuccessorFunction};
+use pf_node_refs::NodeRefs;
 use pf_orders::directed::strongly_connected_components::{
     strongly_connected_component, strongly_connected_components, strongly_connected_components_from,
 };
@@ -14,7 +15,6 @@ use pf_orders::directed::topological_sort::topological_sort;
 use pf_search::directed::bfs::{bfs, bfs_loop, bfs_reach};
 use pf_search::directed::dfs::{dfs, dfs_reach};
 use pf_search::directed::iddfs::iddfs;
-use pf_node_refs::NodeRefs;
 use std::alloc::Global;
 use std::hash::Hash;
 

@@ -9,9 +9,9 @@ ghost use Rattle.test_searches.specs.Compact.{IsCompact, IsNode, edges_in, nodes
 
 use num_traits::Number;
 use pf_base::PathError;
+use pf_node_refs::NodeRefs;
 use pf_search::directed::bfs::bfs;
 use pf_search::directed::dijkstra::dijkstra;
-use pf_node_refs::NodeRefs;
 use std::alloc::Global;
 
 /// Whether no offset is above the next one, nor above `end`.

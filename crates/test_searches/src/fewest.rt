@@ -1,9 +1,9 @@
 //! Callers of `bfs` and `iddfs` over lists of edges (from, to).
 
 use pf_base::PathError;
+use pf_node_refs::NodeRefs;
 use pf_search::directed::bfs::bfs;
 use pf_search::directed::iddfs::iddfs;
-use pf_node_refs::NodeRefs;
 use std::alloc::Global;
 use test_allocator::Refusing;
 use test_edge_lists::nodes_after;

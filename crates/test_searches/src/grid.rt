@@ -7,9 +7,9 @@ ghost use Rattle.test_searches.specs.Grid.{cells_from, entered, entered_cell, sa
 
 use num_traits::Number;
 use pf_base::PathError;
+use pf_node_refs::NodeRefs;
 use pf_search::directed::bfs::bfs;
 use pf_search::directed::dijkstra::dijkstra;
-use pf_node_refs::NodeRefs;
 use pf_utils::move_in_direction;
 use std::alloc::Global;
 

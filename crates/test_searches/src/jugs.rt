@@ -6,9 +6,9 @@ ghost use Rattle.test_searches.specs.Moves.{moves_from};
 
 #[cfg(test)]
 use pf_base::PathError;
+use pf_node_refs::NodeRefs;
 #[cfg(test)]
 use pf_search::directed::bfs::bfs;
-use pf_node_refs::NodeRefs;
 #[cfg(test)]
 use std::alloc::Global;
 

@@ -7,9 +7,9 @@ ghost use Rattle.test_searches.specs.Rows.{edges_of, nodes_after};
 
 use num_traits::Number;
 use pf_base::PathError;
+use pf_node_refs::NodeRefs;
 use pf_search::directed::bfs::bfs;
 use pf_search::directed::dijkstra::dijkstra;
-use pf_node_refs::NodeRefs;
 use std::alloc::Global;
 
 /// Whether each edge of a row leads below `bound`.

@@ -8,13 +8,13 @@ use crate::inputs::Rows;
 use crate::jobs::orders::{depth_sum, order_of};
 use crate::jobs::rows::{PATHS, costs_of, ends_at};
 use crate::repeats::{Outcome, Repeats};
+use pf_node_refs::NodeRefs;
 use pf_table_orders::{
     strongly_connected_components, topological_sort, topological_sort_into_groups,
 };
 use pf_table_paths::yen;
 use pf_table_searches::{bfs_loop, dfs, dijkstra_all, dijkstra_reach};
 use pf_tables::{CompactRows, Graph, dijkstra};
-use pf_node_refs::NodeRefs;
 use std::alloc::Global;
 
 /// A search or an order over rows in compact form.

@@ -7,10 +7,10 @@ use crate::error::BenchError;
 use crate::inputs::Rows;
 use crate::repeats::{Outcome, Repeats};
 use pf_base::PathError;
+use pf_node_refs::NodeRefs;
 use pf_search::directed::bfs::bfs_loop;
 use pf_search::directed::dfs::dfs;
 use pf_search::directed::dijkstra::{dijkstra, dijkstra_all, dijkstra_reach};
-use pf_node_refs::NodeRefs;
 use pf_yen::directed::yen::yen;
 use std::alloc::Global;
 

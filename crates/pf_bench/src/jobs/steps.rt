@@ -6,10 +6,10 @@ use crate::checks::{edges_of, nodes_of};
 use crate::inputs::{Board, Cell, HIGHEST, START};
 use crate::repeats::{Outcome, Repeats};
 use pf_both_ends::bfs_bidirectional;
+use pf_node_refs::NodeRefs;
 use pf_search::directed::bfs::{bfs, bfs_reach};
 use pf_search::directed::dfs::dfs_reach;
 use pf_search::directed::iddfs::iddfs;
-use pf_node_refs::NodeRefs;
 use std::alloc::Global;
 
 /// A search on a board whose steps have no costs.

@@ -7,6 +7,7 @@ use pf_edge_lists::EdgeList;
 use pf_graph::undirected::kruskal::kruskal;
 use pf_grid::Grid;
 use pf_matrix::{Matrix, directions};
+use pf_node_refs::NodeRefs;
 use pf_table_breadth::bfs;
 use pf_table_orders::{
     strongly_connected_component, strongly_connected_components, topological_sort,
@@ -14,7 +15,6 @@ use pf_table_orders::{
 };
 use pf_table_searches::bfs_loop;
 use pf_tables::Rows;
-use pf_node_refs::NodeRefs;
 use std::alloc::Global;
 
 /// The nodes after each of sixteen nodes.

@@ -6,6 +6,7 @@ use crate::tests::depth::{
 use crate::walks::{all_of, first_of, up_to};
 use pf_adjacency::BothWays;
 use pf_base::PathError;
+use pf_node_refs::NodeRefs;
 use pf_table_both_ends::{bfs_bidirectional, dijkstra_bidirectional};
 use pf_table_breadth::bfs;
 use pf_table_estimates::{
@@ -20,7 +21,6 @@ use pf_table_searches::{
     bfs_loop, bfs_reach, dfs, dfs_reach, dijkstra_all, dijkstra_partial, dijkstra_reach,
 };
 use pf_tables::{CompactRows, Graph, dijkstra};
-use pf_node_refs::NodeRefs;
 use std::alloc::Global;
 
 /// The edges of the numbers from 0 to `last`, where memory is left: 0 has none, and each other one has
