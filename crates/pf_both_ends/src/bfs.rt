@@ -1,6 +1,6 @@
 //! Paths with fewest edges, searched from both ends.
 
-ghost use Rattle.std.specs.Prelude.{◌≡◌, List, IfOk, IfErr};
+ghost use Rattle.std.specs.Prelude.{◌≡◌, IfOk, IfErr};
 ghost use Rattle.pf_base.specs.Successors.{IsFewestEdgesOrNone};
 ghost use Rattle.pf_base.specs.Mirrors.{is_among, AnswersSearchFromBothEnds, OfSearchFromBothEnds};
 ghost use Rattle.pf_base.specs.Answers.{IsLawfulClone};

@@ -8,7 +8,7 @@ ghost use Rattle.pf_core.specs.declared.labels.Label.{Label};
 ghost use Rattle.pf_core.specs.Labels.{HasLabel, IsTree};
 ghost use Rattle.pf_core.specs.Nodes.{StandsFor};
 ghost use Rattle.pf_both_ends.specs.BothEnds.{AnswersWeightedSearchFromBothEnds, OfWeightedSearchFromBothEnds};
-ghost use Rattle.pf_both_ends.specs.Internal.BothEnds.{AreNumberedOnce, bound, TellsAtMost, IsMeetingOn, NoneBelowOn, NoMeetingAmong, IsFirstMeeting, AreSoundOn, AreHalvesOn, IsPairOn, AnswersPair, OfPair, AnswersEnds, OfEnds, NoWalkAcross, NoWalkAcrossBelow};
+ghost use Rattle.pf_both_ends.specs.Internal.BothEnds.{AreNumberedOnce, bound, TellsAtMost, IsMeetingOn, NoneBelowOn, NoMeetingAmong, IsFirstMeeting, AreSoundOn, AreHalvesOn, IsPairOn, AnswersPair, OfPair, NoWalkAcross, NoWalkAcrossBelow};
 
 use crate::discovered::cheapest_path;
 use pf_base::{Cost, EdgeFunction, PathError};

@@ -1,6 +1,6 @@
 //! Discoveries from both ends: each side numbers the nodes that it finds.
 
-ghost use Rattle.std.specs.Prelude.{◌≡◌, ◌<◌, ◌≤◌, ◌++◌, ℕ, List, IfOk, IfErr, Contains, length, drop, reverse};
+ghost use Rattle.std.specs.Prelude.{◌≡◌, ◌<◌, ◌++◌, ℕ, List, IfOk, IfErr, Contains, length, drop, reverse};
 ghost use Rattle.std.specs.List.{AllZip};
 ghost use Rattle.pf_base.specs.Answers.{IsLawfulClone};
 ghost use Rattle.pf_core.specs.Nodes.{NodeGraph, IsStep, StandsFor, Explores};

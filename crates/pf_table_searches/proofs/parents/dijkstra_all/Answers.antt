@@ -1,4 +1,4 @@
-use Rattle.std.proofs.Common.{◌∷◌, [], List, ℕ, ℤ, Err, refl, ap, subst, nat_eq}
+use Rattle.std.proofs.Common.{List, ℕ, ℤ, Err, refl, ap, subst, nat_eq}
 use Rattle.std.specs.Cmp.{nat_eq_equiv}
 use Rattle.std.proofs.lemmas.Result.{IfOk-from_err}
 use Rattle.pf_base.specs.Answers.{ListsEdges}

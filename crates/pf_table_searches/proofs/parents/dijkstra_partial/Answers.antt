@@ -1,6 +1,4 @@
-use Rattle.std.proofs.Common.{◌∷◌, [], refl, inl}
-use Rattle.std.proofs.lemmas.Result.{IfOk-from_err}
-use Rattle.pf_base.proofs.Outcomes.{no_overflow, refused_as}
+use Rattle.std.proofs.Common.{◌∷◌, [], refl}
 use Rattle.pf_tables.specs.Graphs.{graph_of}
 use Rattle.pf_tables.proofs.GraphLemmas.{no_negative_cost}
 use Rattle.pf_table_functions.proofs.TableExplores.{table_edges, one_distinct, same_nodes, first_stands}
