@@ -1,5 +1,5 @@
 -- The numbers by which a search knows the nodes of a table.
-use Rattle.std.proofs.Common.{◌≡◌, ℕ, zero, suc, ◌<◌, ◌≤◌, ◌+◌, ◌-◌, ◌^◌, ◌∙◌, refl, sym, ap, subst, arith, inl, inr, true, false, List, [], ◌∷◌, ◌++◌, length, take, replicate, nat_eq, Some}
+use Rattle.std.proofs.Common.{◌≡◌, ℕ, zero, suc, ◌<◌, ◌≤◌, ◌+◌, ◌-◌, ◌^◌, ◌∙◌, refl, sym, ap, subst, arith, inl, inr, true, false, List, [], ◌∷◌, ◌++◌, length, replicate, nat_eq, Some}
 use Rattle.std.specs.Prelude.{slice_get, slice_set, MatchOption, Option, None}
 use Rattle.std.specs.List.{IsDistinct, AllByRecursion, position, position_from}
 use Rattle.std.proofs.lemmas.Iterator.Adapters.{position_from-zero}
@@ -7,10 +7,8 @@ use Rattle.std.proofs.lemmas.List.{length-append, length-set}
 use Rattle.std.proofs.lemmas.Option.{slice_get_within}
 use Rattle.std.proofs.lemmas.Bool.{ne_eqb, true≢false}
 use Rattle.pf_base.proofs.ListLemmas.{get_set, get_pushed, get_at_end, get-append, none_in, bool_dec}
-use Rattle.std.specs.Prelude.{Result, Ok, Err, IfOk, OnOk, OnErr}
-use Rattle.pf_base.specs.declared.error.PathError.{PathError}
 use Rattle.pf_core.specs.Nodes.{AddsNode, StandsFor}
-use Rattle.pf_core.proofs.NodeLemmas.{AddsNode-new, AddsNode-old}
+use Rattle.pf_core.proofs.NodeLemmas.{AddsNode-new}
 use Rattle.std.specs.Cmp.{nat_eq_equiv}
 use Rattle.pf_base.specs.NodeRefs.{HasSameNodes}
 use Rattle.pf_base.specs.Walks.{HasNode}

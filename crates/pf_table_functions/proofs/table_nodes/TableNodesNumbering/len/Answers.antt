@@ -1,2 +1,0 @@
-use Rattle.std.proofs.Common.{arith}
-use Rattle.pf_table_functions.proofs.table_nodes.TableNodesNumbering.len.Goals as goal
