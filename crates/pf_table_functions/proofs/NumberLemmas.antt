@@ -1,5 +1,5 @@
 -- The numbers by which a search knows the nodes of a table.
-use Rattle.std.proofs.Common.{◌≡◌, ℕ, zero, suc, ◌<◌, ◌≤◌, ◌+◌, ◌-◌, ◌^◌, ◌∙◌, refl, sym, ap, subst, arith, inl, inr, true, false, List, [], ◌∷◌, ◌++◌, length, replicate, nat_eq, Some}
+use Rattle.std.proofs.Common.{◌≡◌, ℕ, zero, suc, ◌<◌, ◌≤◌, ◌+◌, ◌-◌, ◌^◌, ◌∙◌, refl, sym, ap, subst, arith, inl, inr, true, false, List, [], ◌∷◌, ◌++◌, length, nat_eq, Some}
 use Rattle.std.specs.Prelude.{slice_get, slice_set, MatchOption, Option, None}
 use Rattle.std.specs.List.{IsDistinct, AllByRecursion, position, position_from}
 use Rattle.std.proofs.lemmas.Iterator.Adapters.{position_from-zero}
@@ -81,31 +81,6 @@ nothing_numbered size = record {
   laid = inl refl;
   few = omega arith;
 }
-
-none_given : (n x k : ℕ) → slice_get (replicate n 0) x ≡ Some (k + 1) → ⊥
-none_given zero x k e = none_in x (k + 1) e
-none_given (suc n) zero k e = omega (arith, some_same 0 (k + 1) e)
-none_given (suc n) (suc x) k e = none_given n x k e
-
--- before the first node was found, a number is laid out for each
-pub laid_out : (size : ℕ) (numbers nodes : List ℕ) (n : ℕ) → length numbers < size → AreNumbersOf size numbers nodes → AreNumbersOf size (numbers ++ replicate n 0) nodes
-laid_out size numbers nodes n short h = record {
-  numbered = λ x k inside. (λ e. absurd (nothing x k (narrow numbers x k e)), λ e. absurd (none_in k x (subst (λ (ns : List ℕ). slice_get ns k ≡ Some x) none e)));
-  once = h.once;
-  laid = inl none;
-  few = h.few;
-}
-  where
-    none : nodes ≡ []
-    none = elim h.laid as (λ _. nodes ≡ []) [ inl e ↦ e | inr e ↦ absurd (omega (arith, e, short)) ]
-
-    nothing : (x k : ℕ) → slice_get numbers x ≡ Some (k + 1) → ⊥
-    nothing x k e = none_in k x (subst (λ (ns : List ℕ). slice_get ns k ≡ Some x) none ((h.numbered x k (slice_get_within numbers x (k + 1) e)).0 e))
-
-    narrow : (ms : List ℕ) (y k : ℕ) → slice_get (ms ++ replicate n 0) y ≡ Some (k + 1) → slice_get ms y ≡ Some (k + 1)
-    narrow [] y k e = absurd (none_given n y k e)
-    narrow (m ∷ ms) zero k e = e
-    narrow (m ∷ ms) (suc y) k e = narrow ms y k e
 
 -- a node is found once more nowhere
 found_once : (nodes : List ℕ) (node : ℕ) → ((k : ℕ) → ¬ (slice_get nodes k ≡ Some node)) → ((i j x : ℕ) → slice_get nodes i ≡ Some x → slice_get nodes j ≡ Some x → i ≡ j)
