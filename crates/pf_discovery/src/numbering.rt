@@ -49,7 +49,7 @@ pub trait Numbering {
 /// Nodes that are numbered by their hashes.
 pub type Nodes<N, A> = IndexSet<N, BuildHasherDefault<FoldHasher>, A>;
 
-impl<N: Eq + Hash + Drop, A: Allocator + Copy> Numbering for Nodes<N, A> {
+impl<N: Eq + Hash + Drop, A: Allocator> Numbering for Nodes<N, A> {
     type Node = N;
 
     ghost keys = { λ s. s.keys };

@@ -22,7 +22,7 @@ where
     C: Cost,
     S: StateSpace<N, C>,
     T: StateGoal<N>,
-    A: Allocator + Copy,
+    A: Allocator,
 {
     space: &'a S,
     start: N,
@@ -36,7 +36,7 @@ where
     C: Cost,
     S: StateSpace<N, C>,
     T: StateGoal<N>,
-    A: Allocator + Copy,
+    A: Allocator,
 {
     ghost use Rattle.pf_state_paths.specs.RankedStateWalks.{StatePathWalk, IsPathWalkOverStates};
 
