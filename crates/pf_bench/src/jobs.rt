@@ -80,10 +80,6 @@ const JOBS: &[(&str, Job)] = &[
     ("astar-board-table", Job::Tables(TablesJob::Astar)),
     ("bfs-board-table", Job::Tables(TablesJob::Bfs)),
     ("bfs_reach-board-table", Job::Tables(TablesJob::BfsReach)),
-    (
-        "bfs_bidirectional-board-table",
-        Job::Tables(TablesJob::BfsBidirectional),
-    ),
     ("dfs_reach-board-table", Job::Tables(TablesJob::DfsReach)),
     ("dijkstra-board-table", Job::Tables(TablesJob::Dijkstra)),
     (

@@ -5,9 +5,7 @@ ghost use Rattle.std.specs.Prelude.{◌<◌};
 use crate::checks::{cost_of, edges_of, nodes_of, walk_costs_of};
 use crate::inputs::{Board, HIGHEST};
 use crate::repeats::{Outcome, Repeats};
-use pf_adjacency::BothWays;
 use pf_boards::Steps;
-use pf_table_both_ends::bfs_bidirectional;
 use pf_table_breadth::bfs;
 use pf_table_estimates::{BoardEstimates, astar};
 use pf_table_searches::{bfs_reach, dfs_reach, dijkstra_reach};
@@ -18,7 +16,6 @@ use std::alloc::Global;
 pub enum TablesJob {
     Astar,
     Bfs,
-    BfsBidirectional,
     BfsReach,
     DfsReach,
     Dijkstra,
@@ -33,23 +30,15 @@ impl TablesJob {
         let cells = Board::random(alloc, size, HIGHEST)?.into_cells(alloc)?;
         let graph = pf_boards::Board::new(size, size, &cells, Steps::Four)?;
         let last = graph.number_of(size - 1, size - 1);
-        match self {
+        repeats.check(|is_last| match self {
             TablesJob::Astar => {
                 let estimates = BoardEstimates::new(&graph, last);
-                repeats.check(|is_last| cost_of(astar(alloc, &estimates, 0), is_last))
+                cost_of(astar(alloc, &estimates, 0), is_last)
             }
-            TablesJob::Bfs => repeats.check(|is_last| edges_of(
-                bfs(alloc, &graph, 0, last),
-                is_last,
-            )),
-            TablesJob::Dijkstra => {
-                repeats.check(|is_last| cost_of(dijkstra(alloc, &graph, 0, last), is_last))
-            }
-            TablesJob::BfsBidirectional => from_both_ends(alloc, &graph, last, repeats),
-            TablesJob::BfsReach | TablesJob::DfsReach | TablesJob::DijkstraReach => {
-                repeats.check(|_is_last| self.walk(alloc, &graph))
-            }
-        }
+            TablesJob::Bfs => edges_of(bfs(alloc, &graph, 0, last), is_last),
+            TablesJob::Dijkstra => cost_of(dijkstra(alloc, &graph, 0, last), is_last),
+            _ => self.walk(alloc, &graph),
+        })
     }
 
     /// Goes along a walk to its end.
@@ -60,15 +49,4 @@ impl TablesJob {
             _ => walk_costs_of(dijkstra_reach(alloc, graph, 0)?),
         }
     }
-}
-
-/// Searches a graph from both ends so often. The edges are turned round once.
-fn from_both_ends<G: Graph<u32>>(
-    alloc: Global,
-    graph: &G,
-    last: usize,
-    repeats: &Repeats,
-) -> Outcome {
-    let both = BothWays::new(alloc, graph)?;
-    repeats.check(|is_last| edges_of(bfs_bidirectional(alloc, &both, 0, last), is_last))
 }
