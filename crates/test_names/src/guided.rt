@@ -1,7 +1,7 @@
 //! Searches from both ends, and searches that estimates lead.
 
 use crate::answers::{Call, Heap, Places, ROUND, are_places, is_path};
-use crate::walks::{Seen, see_ways};
+use crate::walks::Seen;
 use pf_adjacency::BothWays;
 use pf_base::PathError;
 use pf_edge_lists::EdgeList;
@@ -43,9 +43,19 @@ fn is_only_way<'h>(heap: Heap<'h>, estimates: &Guides<'_, 'h>) -> Result<bool, P
         return Ok(false);
     };
     let mut seen = Seen::new(&["b"]);
-    see_ways(&mut paths, &mut seen);
-    paths.resume();
-    see_ways(&mut paths, &mut seen);
+    for _ in 0..2 {
+        for step in paths.by_ref() {
+            match &step {
+                Ok(path) => {
+                    if let Some(place) = path.get(1) {
+                        seen.note(Ok(**place));
+                    }
+                }
+                Err(refusal) => seen.note(Err(*refusal)),
+            }
+        }
+        paths.resume();
+    }
     Ok(seen.answer()? && cost == 6)
 }
 
