@@ -8,7 +8,7 @@ use Rattle.std.proofs.lemmas.Option.{slice_get-map, slice_get-get_or, slice_get_
 use Rattle.std.proofs.lemmas.Nat.{mul-add-lt}
 use Rattle.std.proofs.Math.Nat.{add-mul-mod_self_right, div-eq_of_lt, div-lt_iff_lt-mul, mod-eq_of_lt, mul-add-div_right}
 use Rattle.pf_base.specs.Moves.{Finds, IsMove, target_of}
-use Rattle.pf_utils.proofs.MoveLemmas.{target_is, target_of-finds}
+use Rattle.pf_utils.proofs.MoveLemmas.{target_of-finds}
 use Rattle.pf_boards.specs.declared.steps.Steps.{Steps}
 use Rattle.pf_boards.specs.declared.steps.Steps.TheVariants.{Four, Eight}
 use Rattle.pf_tables.specs.Graphs.{IsGraph, HasEdgeAt}
@@ -54,18 +54,6 @@ pub place_inside : (rows columns cells row column : ℕ) → cells ≡ rows * co
 place_inside rows columns cells row column sized r c = omega (arith, sized, mul-add-lt row columns column rows r c)
 
 -- ---- a step
-
-module _ {C : Type 0} (board : Cells C) (node : ℕ) (direction : ℤ × ℤ) where
-  pub step_off : (price : C) → cost_at board.cells node ≡ Some price → target_of (position_at board node) direction (board.rows, board.columns) ≡ None → step_from board node direction ≡ None
-  step_off price o t = rw (o, t) refl
-
-  pub step_on : (price : C) (target : ℕ × ℕ) (cell : Option C) → cost_at board.cells node ≡ Some price → length board.cells ≡ board.rows * board.columns
-      → IsMove (position_at board node) direction (board.rows, board.columns) target → cell ≡ get_or board.cells (node_at board target) cell
-      → step_from board node direction ≡ option_map (λ cost. (node_at board target, cost)) cell
-  step_on price target cell o sized move read =
-      let t = sym (target_is (position_at board node) direction (board.rows, board.columns) (Some target) move) in
-      let inside : node_at board target < length board.cells = omega (arith, sized, mul-add-lt target.0 board.columns target.1 board.rows move.to_inside.0 move.to_inside.1) in
-      rw (o, t) (ap (option_map (λ cost. (node_at board target, cost))) (cost_read board.cells (node_at board target) cell inside read))
 
 -- the step at a place of a node, of which all directions are those of `eight`
 pub direction_at : (steps : Steps) (place : ℕ) (d : ℤ × ℤ) → place < length (directions_of steps) → slice_get (directions_of steps) place ≡ Some (get_or eight place d)

@@ -1,7 +1,8 @@
 //! Graphs as boards of cells.
 
-ghost use Rattle.std.specs.Prelude.{◌≡◌, ◌<◌, ◌<ℤ◌, ◌*◌, ◌+◌, pos, Some, length, IfOk, IfErr, IfSome, MatchOption, slice_get};
-ghost use Rattle.std.specs.Option.{SomeIff};
+ghost use Rattle.std.specs.Prelude.{◌≡◌, ◌<◌, ◌<ℤ◌, ◌*◌, ◌+◌, ◌/◌, ◌%◌, ◌^◌, ℕ, pos, Some, length, IfOk, IfErr, IfSome, MatchOption, get_or, slice_get};
+ghost use Rattle.std.specs.Option.{SomeIff, option_map};
+ghost use Rattle.pf_base.specs.Moves.{target_of};
 ghost use Rattle.pf_boards.specs.Boards.{Cells, IsBoard, IsBoardFault, IsFromZeroTo, directions_of, eight, node_at, position_at, step_from, steps_from};
 
 use crate::steps::Steps;
@@ -65,22 +66,60 @@ fn negative_cell<C: Cost>(cells: &[Option<C>]) -> Option<usize>
     None
 }
 
-/// Where a step leads from an open cell, and what it costs.
+/// The cell that the step at a place leads to, where it stays on the board. A step up or down is told
+/// without a row and a column, which take a division.
+fn neighbour(rows: usize, columns: usize, node: usize, place: usize) -> Option<usize>
+    requires small { rows * columns < 2 ^ 64 }
+    requires inside { node < rows * columns }
+    requires place { place < 8 }
+    ensures { result ≡ option_map (λ (target : ℕ × ℕ). target.0 * columns + target.1) (target_of (node / columns, node % columns) (get_or eight place (pos 0, pos 0)) (rows, columns)) }
+{
+    match place {
+        0 => node.checked_sub(columns),
+        1 => {
+            if node % columns + 1 < columns {
+                Some(node + 1)
+            } else {
+                None
+            }
+        }
+        2 => {
+            if columns < rows * columns - node {
+                Some(node + columns)
+            } else {
+                None
+            }
+        }
+        3 => {
+            if node % columns > 0 {
+                Some(node - 1)
+            } else {
+                None
+            }
+        }
+        _ => {
+            let position = (node / columns, node % columns);
+            let target = move_in_direction(position, DIRECTIONS[place], (rows, columns))?;
+            Some(target.0 * columns + target.1)
+        }
+    }
+}
+
+/// Where the step at a place leads from an open cell, and what it costs.
 fn step<C: Cost>(
     rows: usize,
     columns: usize,
     cells: &[Option<C>],
     node: usize,
-    direction: (isize, isize),
+    place: usize,
 ) -> Option<(usize, C)>
     requires sized { length cells.now ≡ rows * columns }
     requires inside { node < length cells.now }
-    ensures { result ≡ step_from (record { rows = rows; columns = columns; cells = cells.now; directions = eight }) node direction }
+    requires place { place < 8 }
+    ensures { result ≡ step_from (record { rows = rows; columns = columns; cells = cells.now; directions = eight }) node (get_or eight place (pos 0, pos 0)) }
 {
     let _open = cells[node]?;
-    let position = (node / columns, node % columns);
-    let target = move_in_direction(position, direction, (rows, columns))?;
-    let number = target.0 * columns + target.1;
+    let number = neighbour(rows, columns, node, place)?;
     let cost = cells[number]?;
     Some((number, cost))
 }
@@ -185,7 +224,7 @@ impl<'a, C: Cost> Graph<C> for Board<'a, C> {
     }
 
     fn edge(&self, node: usize, place: usize) -> Option<(usize, C)> {
-        step(self.rows, self.columns, self.cells, node, DIRECTIONS[place])
+        step(self.rows, self.columns, self.cells, node, place)
     }
 
     fn known(&self) {

@@ -10,8 +10,8 @@ returns g c =
     let inside = simp length-map at place in
     rw (← c.self.view_is) (step_at _ c.args.node c.args.place _ (direction_at c.self.inside.steps c.args.place _ inside) ∙ ap Some (sym c.step.ensures))
 
-pub bounds-place-place : goal.bounds-place-place
-bounds-place-place g c =
+pub step-requires-clause-place : goal.step-requires-clause-place
+step-requires-clause-place g c =
     let place = rw (← c.self.view_is) at c.requires.place in
     place_bound c.self.inside.steps c.args.place (simp length-map at place)
 
