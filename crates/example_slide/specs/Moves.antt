@@ -3,9 +3,12 @@ use Rattle.std.specs.Prelude.{ℕ, ◌+◌, ◌-◌, ◌%◌, ◌&&◌, nat_lt, 
 use Rattle.example_slide.specs.declared.slide.Tiles.{Tiles}
 
 module _ (s : Tiles) where
-  -- the tile at this cell moves into the gap
+  -- the tile at this cell moves into the gap, at a cost of 1
+  abbrev pub slid_to : ℕ → Tiles
+  slid_to cell = record { cells = slice_set (slice_set s.cells s.gap (slice_index s.cells cell)) cell 0; gap = cell }
+
   abbrev pub slid : ℕ → Option (Tiles × ℕ)
-  slid cell = Some (record { cells = slice_set (slice_set s.cells s.gap (slice_index s.cells cell)) cell 0; gap = cell }, 1)
+  slid cell = Some (slid_to cell, 1)
 
   -- the tile above the gap, on its right, below it or on its left moves into it, where there is one
   abbrev pub from_above : Option (Tiles × ℕ)
@@ -20,6 +23,6 @@ module _ (s : Tiles) where
   abbrev pub from_left : Option (Tiles × ℕ)
   from_left = if nat_lt 0 (s.gap % 3) && nat_lt s.gap 9 then slid (s.gap - 1) else None
 
-  -- what one move leads to, at a cost of 1
+  -- what one move leads to
   abbrev pub moves_from : List (Option (Tiles × ℕ))
   moves_from = from_above ∷ from_right ∷ from_below ∷ from_left ∷ []

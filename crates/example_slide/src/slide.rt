@@ -1,10 +1,12 @@
-//! The puzzle: its states, and what one move leads to.
+//! The puzzle: its states, what one move leads to, and how far the goal is at least.
 
 ghost use Prim.{search};
-ghost use Rattle.std.proofs.Common.{rules};
-ghost use Rattle.std.specs.Prelude.{◌≡◌, ◌<◌};
+ghost use Rattle.std.proofs.Common.{ap, rules};
+ghost use Rattle.std.specs.Prelude.{◌≡◌, ◌<◌, ◌≤◌, pos};
+ghost use Rattle.example_slide.specs.Misplaced.{falls, misplaced, none_off, off};
 ghost use Rattle.example_slide.specs.Moves.{from_above, from_below, from_left, from_right, moves_from, slid};
 
+use pf_state_estimates::StateEstimate;
 use pf_states::{Exact, StateSpace};
 
 /// The tiles in the cells, row by row, with 0 in the gap, and the cell of the gap.
@@ -97,4 +99,37 @@ impl StateSpace<Tiles, u32> for Slide {
     }
 
     ghost costs_law = { λ space tiles next cost place e. search rules };
+}
+
+/// The estimate: how many tiles are out of place. Each takes a move at least.
+#[derive(Drop)]
+pub struct Misplaced;
+
+/// 1 for a cell that is not the gap and has another tile than in the goal, else 0.
+fn off(goal: &Tiles, tiles: &Tiles, cell: usize) -> u32
+    requires { cell < 9 }
+    ensures is { result ≡ off goal.now tiles.now cell }
+    ensures small { result ≤ 1 }
+{
+    if cell == tiles.gap || tiles.cells[cell] == goal.cells[cell] {
+        0
+    } else {
+        1
+    }
+}
+
+impl StateEstimate<Tiles, u32, Slide, Tiles> for Misplaced {
+    ghost estimated = { λ _ _ goal tiles. misplaced goal 9 tiles };
+
+    fn estimate(&self, _space: &Slide, goal: &Tiles, tiles: &Tiles) -> u32 {
+        let upper = off(goal, tiles, 0) + off(goal, tiles, 1) + off(goal, tiles, 2);
+        let middle = upper + off(goal, tiles, 3) + off(goal, tiles, 4) + off(goal, tiles, 5);
+        middle + off(goal, tiles, 6) + off(goal, tiles, 7) + off(goal, tiles, 8)
+    }
+
+    ghost from_zero_law = { λ led space goal tiles. search rules };
+
+    ghost at_goal_law = { λ led space goal tiles e. ap pos (none_off goal 9 tiles (search rules)) };
+
+    ghost falls_law = { λ led space goal tiles next cost place e. falls goal tiles next cost place e };
 }

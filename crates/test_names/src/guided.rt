@@ -37,11 +37,12 @@ fn is_only_cheapest(
     Ok(paths.len() == 1 && is_first)
 }
 
-/// Whether the cheapest path alone comes, also behind a step that is refused.
+/// Whether the cheapest path alone comes of a clone, also behind a step that is refused.
 fn is_only_way<'h>(heap: Heap<'h>, estimates: &Guides<'_, 'h>) -> Result<bool, PathError> {
-    let Some((mut paths, cost)) = astar_bag(heap, estimates, &"a")? else {
+    let Some((made, cost)) = astar_bag(heap, estimates, &"a")? else {
         return Ok(false);
     };
+    let mut paths = made.clone()?;
     let mut seen = Seen::new(&["b"]);
     for _ in 0..2 {
         for step in paths.by_ref() {
