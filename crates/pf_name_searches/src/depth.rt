@@ -64,7 +64,8 @@ where
 ///
 /// The algorithm is that of `iddfs` over the numbers of the names: `from` and `to` are looked up, and no
 /// name is hashed or compared after that, save that `from` is compared with `to` where the list has no
-/// such name as `to`. The depth of calls in the machine is the number of edges of the path.
+/// such name as `to`. Memory is taken for a mark for each name and an entry for each name of the path,
+/// and the depth of calls in the machine does not grow with the path.
 pub fn iddfs<'p, 'e, N, C, A, B>(
     alloc: B,
     list: &EdgeList<'e, N, C, A>,

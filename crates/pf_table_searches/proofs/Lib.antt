@@ -1,1 +1,4 @@
 mod TableWalkLemmas
+mod TrailLemmas
+mod TrailMeasure
+mod TrailAnswers

@@ -1,14 +1,13 @@
 //! Paths found depth first.
 
 ghost use Rattle.std.specs.Prelude.{◌≡◌, [], ◌∷◌, IfOk, IfErr, MatchOption, nat_eq};
-ghost use Rattle.pf_base.specs.Successors.{HasSuccessor, IsFewestEdgesGoalPath};
+ghost use Rattle.pf_base.specs.Successors.{HasSuccessor};
 ghost use Rattle.pf_base.specs.Walks.{HasNoGoalWalk, IsGoalPath};
 ghost use Rattle.pf_search.specs.Preorder.{IsFirstTreePath};
 ghost use Rattle.pf_tables.specs.Graphs.{successors_of};
 
 use pf_base::{Cost, PathError};
 use pf_search::directed::dfs::dfs_over;
-use pf_table_functions::edges::ends_of;
 use pf_table_functions::goal_test::GoalTest;
 use pf_table_functions::neighbours::Neighbours;
 use pf_table_functions::table_nodes::TableNodes;
@@ -50,42 +49,5 @@ where
         from,
         Neighbours::new(graph),
         GoalTest::new(goals),
-    )
-}
-
-/// A path with fewest edges from the node `from` to a goal, or `None` exactly where no walk leads from
-/// `from` to a goal, in little memory and by a time of the order of the number of paths.
-///
-/// The path contains no node twice, and which of several such paths is answered is open. A number that
-/// is no node of the graph has no edges.
-///
-/// # Errors
-///
-/// `OutOfMemory`: a request for memory was refused.
-///
-/// The algorithm is depth-first iterative deepening (R. E. Korf, "Depth-first iterative-deepening: an
-/// optimal admissible tree search", 1985). The depth of calls in the machine is the number of edges of
-/// the path.
-pub fn iddfs<C, G, T, A>(
-    alloc: A,
-    graph: &G,
-    from: usize,
-    goals: T,
-) -> Result<Option<Vec<usize, A>>, PathError>
-where
-    C: Cost,
-    G: Graph<C>,
-    T: Goals + Copy,
-    A: Allocator + Copy,
-    ensures best { IfOk result (λ answer. MatchOption answer
-        (HasNoGoalWalk nat_eq (HasSuccessor nat_eq (successors_of C.value (G.size graph.now) (G.places graph.now))) (from ∷ []) (T.passes goals))
-        (λ path. IsFewestEdgesGoalPath nat_eq (successors_of C.value (G.size graph.now) (G.places graph.now)) (from ∷ []) (T.passes goals) path.items)) }
-    ensures errors { IfErr result (λ e. e ≡ PathError.OutOfMemory) }
-{
-    pf_search::directed::iddfs::iddfs(
-        alloc,
-        from,
-        |n: &usize| ends_of(graph, *n),
-        |n: &usize| goals.is_goal(*n),
     )
 }

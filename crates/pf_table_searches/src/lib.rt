@@ -2,13 +2,15 @@
 //! of its caller.
 #![tactic(auto)]
 
+mod deepening;
 mod depth;
 mod loops;
 mod parents;
 mod preorder;
 mod walks;
 
-pub use crate::depth::{dfs, iddfs};
+pub use crate::deepening::iddfs;
+pub use crate::depth::dfs;
 pub use crate::loops::bfs_loop;
 pub use crate::parents::{dijkstra_all, dijkstra_partial};
 pub use crate::preorder::{DfsReachable, dfs_reach};

@@ -28,7 +28,7 @@ const SIDE: usize = 1_000;
 const SHORT_LAST: usize = 500;
 
 /// Whether the numbers fall by 1 from the last one on, and begin again behind 0.
-fn fall(numbers: &[usize], last: usize) -> bool {
+pub(super) fn fall(numbers: &[usize], last: usize) -> bool {
     let mut wanted = last;
     for number in numbers {
         if *number != wanted {

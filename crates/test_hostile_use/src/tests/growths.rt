@@ -66,7 +66,7 @@ const CALLS: &[(Call, u64)] = &[
     (Call::Round(RoundCall::Parents), 6),
     (Call::Round(RoundCall::PartOfParents), 6),
     (Call::Round(RoundCall::Depth), 4),
-    (Call::Round(RoundCall::Deepened), 2),
+    (Call::Round(RoundCall::Deepened), 3),
     (Call::Round(RoundCall::Loop), 4),
     (Call::Round(RoundCall::Component), 6),
     (Call::Round(RoundCall::Components), 6),

@@ -1,7 +1,8 @@
-//! A chain of a million numbers in a table: no call goes as deep in the machine as the graph is.
+//! Chains in tables, of a million numbers but for `iddfs`: no call goes as deep in the machine as the
+//! graph is.
 
 use crate::tests::depth::{
-    LAST, fall_to_zero, have_lengths, is_path_down, is_way_down, numbers_to,
+    LAST, fall, fall_to_zero, have_lengths, is_path_down, is_way_down, numbers_to,
 };
 use crate::walks::{all_of, first_of, up_to};
 use pf_adjacency::BothWays;
@@ -18,10 +19,14 @@ use pf_table_orders::{
 };
 use pf_table_paths::{yen, yen_paths};
 use pf_table_searches::{
-    bfs_loop, bfs_reach, dfs, dfs_reach, dijkstra_all, dijkstra_partial, dijkstra_reach,
+    bfs_loop, bfs_reach, dfs, dfs_reach, dijkstra_all, dijkstra_partial, dijkstra_reach, iddfs,
 };
 use pf_tables::{CompactRows, Graph, dijkstra};
 use std::alloc::Global;
+
+/// The last number for `iddfs`, which goes along the chain once for each length of its path: its time
+/// grows as the square of the depth.
+const SHORT_LAST: usize = 30_000;
 
 /// The edges of the numbers from 0 to `last`, where memory is left: 0 has none, and each other one has
 /// one to the next lower one, at cost 1.
@@ -64,6 +69,11 @@ fn are_groups_down(answer: Result<Groups, PathError>) -> bool {
         }
     }
     groups.len() == LAST + 1
+}
+
+/// Whether there is a path, and it leads from `SHORT_LAST` down to 0.
+fn is_short_path_down(found: Result<Option<Vec<usize>>, PathError>) -> bool {
+    matches!(&found, Ok(Some(path)) if path.len() == SHORT_LAST + 1 && fall(path, SHORT_LAST))
 }
 
 /// Whether a walk gives the numbers down to 0.
@@ -149,4 +159,13 @@ fn tables(rt: HostRuntime) {
     let remaining = numbers_to(alloc, LAST).expect(&rt, "memory");
     let estimates = Estimates::new(&graph, 0, &remaining).expect(&rt, "estimates");
     assert!(rt; matches!(is_led_down(alloc, &estimates), Ok(true)));
+}
+
+#[test]
+fn deepened_tables(rt: HostRuntime) {
+    let alloc = rt.alloc();
+    let offsets = offsets_to(alloc, SHORT_LAST).expect(&rt, "memory");
+    let edges = edges_down(alloc, SHORT_LAST).expect(&rt, "memory");
+    let graph = CompactRows::new(&offsets, edges.as_slice()).expect(&rt, "a graph");
+    assert!(rt; is_short_path_down(iddfs(alloc, &graph, SHORT_LAST, 0)));
 }

@@ -1,0 +1,38 @@
+use Rattle.std.proofs.Common.{◌∙◌, true≢false, arith, sym, ap}
+use Rattle.std.proofs.lemmas.Cmp.{nat_eq_equiv}
+use borrow.Author.Tests.{eqb-true}
+use Rattle.pf_tables.specs.Graphs.{successors_of}
+use Rattle.pf_tables.proofs.Alone.{no_way_alone}
+use Rattle.pf_table_searches.proofs.TrailLemmas.{none_marked, none_outside}
+use Rattle.pf_table_searches.proofs.TrailAnswers.{none_without_edges, fewest_along, no_walk_left}
+use Rattle.pf_table_searches.proofs.deepening.iddfs.Goals as goal
+
+pub returns-then-from-len-clause-best : goal.returns-then-from-len-clause-best
+returns-then-from-len-clause-best g c =
+    let passes = g.T.Goals.passes c.args.goals in
+    let size = g.G.Graph.size c.args.graph.now in
+    let places = g.G.Graph.places c.args.graph.now in
+    no_way_alone nat_eq_equiv c.args.from passes (λ a e. ap passes (eqb-true c.args.from a e)) (successors_of g.C.Number.value size places) (none_outside g.C.Number.value size places c.args.from (omega (arith, c.if-from-len.true, c.len.ensures)))
+    (sym c.is_goal.ensures ∙ c.if-is_goal.false)
+
+pub limits-init : goal.limits-init
+limits-init g c =
+    let next = successors_of g.C.Number.value (g.G.Graph.size c.args.graph.now) (g.G.Graph.places c.args.graph.now) in
+    record {
+      begins = c.new-entries.ensures.items;
+      wide = c.in_ok-marked.ensures.len ∙ c.len-2.ensures;
+      clear = none_marked c.len-2.result c.in_ok-marked.marked.items c.in_ok-marked.ensures.items;
+      none = none_without_edges next c.args.from (g.T.Goals.passes c.args.goals) (sym c.is_goal.ensures ∙ c.if-is_goal.false);
+    }
+
+pub returns-in-Found-clause-best : goal.returns-in-Found-clause-best
+returns-in-Found-clause-best g c =
+    let next = successors_of g.C.Number.value (g.G.Graph.size c.args.graph.now) (g.G.Graph.places c.args.graph.now) in
+    let found = rw c.in-Found.is at c.in_ok-deepen.ensures.found in
+    rw (c.in_ok-path-in-Found.ensures.nodes, c.deref.ensures.value) (fewest_along next c.args.from (g.T.Goals.passes c.args.goals) c.limits.limit c.deepen.new.entries.items c.limits.invariant.none found.0 found.1)
+
+pub returns-in-Missed-false-clause-best : goal.returns-in-Missed-false-clause-best
+returns-in-Missed-false-clause-best g c =
+    let next = successors_of g.C.Number.value (g.G.Graph.size c.args.graph.now) (g.G.Graph.places c.args.graph.now) in
+    let missed = rw c.in-Missed-false.is at c.in_ok-deepen.ensures.found in
+    no_walk_left next c.args.from (g.T.Goals.passes c.args.goals) (λ w k. missed.3 w (λ e. absurd (true≢false (sym e ∙ c.in-Missed-false.cut-test))) k)
