@@ -2,7 +2,7 @@ pub mod SourceLemmas
 pub mod LoopLemmas
 pub mod LoopWalks
 pub mod DepthFirstLemmas
-pub mod VisitLemmas
+pub mod LastLemmas
 mod PlaceLemmas
 pub mod ResultLemmas
 pub mod StillLemmas

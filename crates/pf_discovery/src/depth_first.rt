@@ -1,10 +1,10 @@
 //! Depth-first walks over numbers, one number at a time.
 
-ghost use Rattle.std.specs.Prelude.{◌≡◌, ◌↔◌, ◌⊎◌, ◌<◌, ◌≤◌, ◌++◌, ◌∷◌, [], ℕ, Bool, List, Some, None, true, OnOk, OnErr, IfErr, MatchOption, length, take, reverse, map};
+ghost use Rattle.std.specs.Prelude.{◌≡◌, ◌↔◌, ◌⊎◌, ◌<◌, ◌≤◌, ◌+◌, ◌++◌, ◌∷◌, [], ℕ, Bool, List, Some, None, true, false, OnOk, OnErr, IfErr, MatchOption, length, slice_index_or, take, reverse, map, vec_capacity};
 ghost use Rattle.std.specs.List.{AllByRecursion, AllZip};
 ghost use Rattle.pf_discovery.specs.declared.depth_first.Branch.{Branch};
 ghost use Rattle.pf_core.specs.Numbered.{Grows, NumbersInOrder};
-ghost use Rattle.pf_discovery.specs.DepthFirst.{IsVisited, IsNextBranch, branches_at};
+ghost use Rattle.pf_discovery.specs.DepthFirst.{IsVisited, IsNextBranch, branches_at, not_visited};
 
 use pf_base::{Cost, PathError};
 use pf_core::numbered::NumberedGraph;
@@ -35,28 +35,32 @@ pub struct DepthFirst<A: Allocator> {
     pub row: Vec<usize, A>,
 }
 
-/// Puts a branch to each number at the end. Where memory is refused, the branches stay.
+/// Was the number visited?
+fn was_visited(visited: &[bool], number: usize) -> bool
+    ensures { result ≡ slice_index_or visited.now number false }
+{
+    match visited.get(number) {
+        Some(visited) => *visited,
+        None => false,
+    }
+}
+
+/// Takes all numbers out, and puts a branch to each that was not visited at the end, the last number
+/// first.
 fn put_branches<A: Allocator>(
     waiting: &mut Vec<Branch, A>,
-    numbers: &[usize],
+    numbers: &mut Vec<usize, A>,
+    visited: &[bool],
     depth: usize,
-) -> Result<(), PathError>
-    ensures put { OnOk result (waiting.new.items ≡ waiting.old.items ++ branches_at depth numbers.now) }
-    ensures stays { OnErr result (waiting.new.items ≡ waiting.old.items) }
-    ensures refused { IfErr result (λ e. e ≡ PathError.OutOfMemory) }
+)
+    requires room { length waiting.old.items + length numbers.old.items ≤ vec_capacity waiting.old }
+    ensures put { waiting.new.items ≡ waiting.old.items ++ branches_at depth (reverse (not_visited visited.now numbers.old.items)) }
 {
-    let len = waiting.len();
-    'numbers: for number in numbers {
-        let branch = Branch {
-            number: *number,
-            depth,
-        };
-        if waiting.push(branch).is_err() {
-            waiting.truncate(len);
-            return Err(PathError::OutOfMemory);
+    'numbers: while let Some(number) = numbers.pop() {
+        if !was_visited(visited, number) {
+            waiting.push_reserved(Branch { number, depth });
         }
     }
-    Ok(())
 }
 
 impl<A: Allocator + Copy> DepthFirst<A> {
@@ -76,16 +80,6 @@ impl<A: Allocator + Copy> DepthFirst<A> {
         }
     }
 
-    /// Was the number visited?
-    fn is_visited(&self, number: usize) -> bool
-        ensures { (result ≡ true) ↔ IsVisited self.now.visited.items number }
-    {
-        match self.visited.get(number) {
-            Some(visited) => *visited,
-            None => false,
-        }
-    }
-
     /// The branch that waits first, whose number was not visited. Branches to visited numbers are dropped.
     fn waiting_branch(&mut self) -> Option<Branch>
         ensures given { self.new.given.items ≡ self.old.given.items }
@@ -97,7 +91,7 @@ impl<A: Allocator + Copy> DepthFirst<A> {
     {
         'branches: while let Some(branch) = self.waiting.last() {
             let branch = *branch;
-            if !self.is_visited(branch.number) {
+            if !was_visited(&self.visited, branch.number) {
                 return Some(branch);
             }
             self.waiting.pop();
@@ -139,7 +133,7 @@ impl<A: Allocator + Copy> DepthFirst<A> {
         ensures given { OnOk result (self.new.given.items ≡ self.old.given.items ++ branch.number ∷ []) }
         ensures visited { OnOk result ((k : ℕ) → IsVisited self.new.visited.items k ↔ (IsVisited self.old.visited.items k ⊎ (k ≡ branch.number))) }
         ensures path { OnOk result (self.new.path.items ≡ take branch.depth self.old.path.items ++ branch.number ∷ []) }
-        ensures waiting { OnOk result ((numbers : List ℕ) × (self.new.waiting.items ≡ self.old.waiting.items ++ branches_at (length self.new.path.items) (reverse numbers))
+        ensures waiting { OnOk result ((numbers : List ℕ) × (self.new.waiting.items ≡ self.old.waiting.items ++ branches_at (length self.new.path.items) (reverse (not_visited self.new.visited.items numbers)))
             × ((g : G.Graph) → G.explores graph.old g → (x : G.Node) → G.stands graph.old branch.number x → AllZip (G.stands graph.new) numbers (G.successors g x))) }
         ensures ordered { OnOk result ((g : G.Graph) → G.explores graph.old g → (x : G.Node) → G.stands graph.old branch.number x → NumbersInOrder (G.stands graph.new) (G.node_count graph.old) (G.successors g x) (G.node_count graph.new)) }
         ensures kept { OnErr result ((self.new.given.items ≡ self.old.given.items) × (self.new.path.items ≡ self.old.path.items) × (self.new.waiting.items ≡ self.old.waiting.items)
@@ -156,6 +150,27 @@ impl<A: Allocator + Copy> DepthFirst<A> {
         Ok(())
     }
 
+    /// Makes room to note one more number, where so many were found. Nothing that was noted changes.
+    fn make_room(&mut self, found: usize) -> Result<(), PathError>
+        ensures given { self.new.given.items ≡ self.old.given.items }
+        ensures visited { (k : ℕ) → IsVisited self.new.visited.items k ↔ IsVisited self.old.visited.items k }
+        ensures path { self.new.path.items ≡ self.old.path.items }
+        ensures waiting { self.new.waiting.items ≡ self.old.waiting.items }
+        ensures row { self.new.row.items ≡ self.old.row.items }
+        ensures wide { OnOk result (found ≤ length self.new.visited.items) }
+        ensures room { OnOk result ((length self.new.given.items < vec_capacity self.new.given) × (length self.new.path.items < vec_capacity self.new.path)
+            × (length self.new.waiting.items + length self.new.row.items ≤ vec_capacity self.new.waiting)) }
+        ensures refused { IfErr result (λ e. e ≡ PathError.OutOfMemory) }
+    {
+        self.given.reserve(1)?;
+        self.path.reserve(1)?;
+        self.waiting.reserve(self.row.len())?;
+        if self.visited.len() < found {
+            self.visited.resize(found, false)?;
+        }
+        Ok(())
+    }
+
     /// Notes that the number of a branch was visited, and what follows it.
     fn note(&mut self, branch: Branch, found: usize) -> Result<(), PathError>
         requires inside { branch.number < found }
@@ -163,22 +178,22 @@ impl<A: Allocator + Copy> DepthFirst<A> {
         ensures given { OnOk result (self.new.given.items ≡ self.old.given.items ++ branch.number ∷ []) }
         ensures visited { OnOk result ((k : ℕ) → IsVisited self.new.visited.items k ↔ (IsVisited self.old.visited.items k ⊎ (k ≡ branch.number))) }
         ensures path { OnOk result (self.new.path.items ≡ take branch.depth self.old.path.items ++ branch.number ∷ []) }
-        ensures waiting { OnOk result (self.new.waiting.items ≡ self.old.waiting.items ++ branches_at (length self.new.path.items) (reverse self.old.row.items)) }
+        ensures waiting { OnOk result (self.new.waiting.items ≡ self.old.waiting.items ++ branches_at (length self.new.path.items) (reverse (not_visited self.new.visited.items self.old.row.items))) }
         ensures kept { OnErr result ((self.new.given.items ≡ self.old.given.items) × (self.new.path.items ≡ self.old.path.items) × (self.new.waiting.items ≡ self.old.waiting.items)
             × ((k : ℕ) → IsVisited self.new.visited.items k ↔ IsVisited self.old.visited.items k)) }
         ensures refused { IfErr result (λ e. e ≡ PathError.OutOfMemory) }
     {
-        self.given.reserve(1)?;
-        self.path.reserve(1)?;
-        if self.visited.len() < found {
-            self.visited.resize(found, false)?;
-        }
-        self.row.reverse();
-        put_branches(&mut self.waiting, &self.row, branch.depth + 1)?;
+        self.make_room(found)?;
         self.visited[branch.number] = true;
+        put_branches(
+            &mut self.waiting,
+            &mut self.row,
+            &self.visited,
+            branch.depth + 1,
+        );
         self.path.truncate(branch.depth);
-        self.path.push(branch.number)?;
-        self.given.push(branch.number)?;
+        self.path.push_reserved(branch.number);
+        self.given.push_reserved(branch.number);
         Ok(())
     }
 }
