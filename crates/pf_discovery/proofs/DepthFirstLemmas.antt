@@ -1,34 +1,11 @@
 -- Lemmas on depth-first walks over numbers.
-use Rattle.std.proofs.Common.{◌≡◌, ℕ, ◌+◌, zero, suc, Bool, true, false, true≢false, cond, not, Some, slice_index_or, List, [], ◌∷◌, ◌++◌, ◌∙◌, map, length, take, reverse, refl, sym, ap, subst, arith, inl, inr}
+use Rattle.std.proofs.Common.{◌≡◌, ℕ, ◌+◌, zero, suc, Bool, true, false, cond, not, slice_index_or, List, [], ◌∷◌, ◌++◌, ◌∙◌, map, length, take, reverse, refl, sym, ap, subst, arith, inl, inr}
 use Rattle.std.specs.Prelude.{Contains}
 use Rattle.std.specs.List.{AllZip, AllByRecursion}
 use Rattle.std.proofs.lemmas.List.{append-nil, append_assoc, reverse-append, reverse-reverse, length-reverse}
 use Rattle.pf_discovery.specs.declared.depth_first.Branch.{Branch}
 use Rattle.pf_discovery.specs.DepthFirst.{IsVisited, branches_at, not_visited, WasVisited, AreVisited, AreLeft, IsPending}
-
--- a marked number was visited
-pub marked_at : (visited : List Bool) (k : ℕ) → slice_index_or visited k false ≡ true → IsVisited visited k
-marked_at [] zero h = absurd (true≢false (sym h))
-marked_at [] (suc k) h = absurd (true≢false (sym h))
-marked_at (v ∷ vs) zero h = ap Some h
-marked_at (v ∷ vs) (suc k) h = marked_at vs k h
-
-not_marked : (visited : List Bool) (k : ℕ) → slice_index_or visited k false ≡ false → ¬ (IsVisited visited k)
-not_marked [] zero h v = cc
-not_marked [] (suc k) h v = cc
-not_marked (v ∷ vs) zero h i = let e : Some v ≡ Some true = i in let f : v ≡ true = cc in true≢false (sym f ∙ h)
-not_marked (v ∷ vs) (suc k) h i = not_marked vs k h i
-
--- what a look at the marks says of a number
-module _ (marks visited : List Bool) (k : ℕ) (b : Bool) (same : marks ≡ visited) (is : b ≡ slice_index_or marks k false) where
-  looked : slice_index_or visited k false ≡ b
-  looked = ap (λ (vs : List Bool). slice_index_or vs k false) (sym same) ∙ sym is
-
-  pub seen_visited : b ≡ true → IsVisited visited k
-  seen_visited h = marked_at visited k (looked ∙ h)
-
-  pub seen_unvisited : b ≡ false → ¬ (IsVisited visited k)
-  seen_unvisited h = not_marked visited k (looked ∙ h)
+use Rattle.pf_discovery.proofs.MarkLemmas.{marked_at}
 
 -- the ends of steps stand for what the steps lead to
 pub ends_stand : {X C : Type 0} (stands : ℕ → X → Type 0) (steps : List (ℕ × C)) (ys : List X) → AllZip (λ (r : ℕ × C) (y : X). stands r.0 y) steps ys → AllZip stands (map (λ (s : ℕ × C). s.0) steps) ys
@@ -36,6 +13,12 @@ ends_stand stands [] [] h = tt
 ends_stand stands [] (y ∷ ys) h = absurd h
 ends_stand stands (s ∷ steps) [] h = absurd h
 ends_stand stands (s ∷ steps) (y ∷ ys) h = (h.0, ends_stand stands steps ys h.1)
+
+-- an end of a step is a number of the steps
+pub end_of_step : {C : Type 0} (steps : List (ℕ × C)) (k : ℕ) → Contains (map (λ (s : ℕ × C). s.0) steps) k → (c : C) × Contains steps (k, c)
+end_of_step [] k h = absurd (omega (arith, h.1))
+end_of_step ((j, c) ∷ steps) k (zero, l, e) = (c, (0, omega arith, ap (λ (i : ℕ). (i, c)) e))
+end_of_step (s ∷ steps) k (suc i, l, e) = let q = end_of_step steps k (i, omega (arith, l), e) in (q.0, (suc q.1.0, omega (arith, q.1.1), q.1.2))
 
 module _ {X : Type 0} (succ : X → List X) (S : ℕ → X → Type 0) (V : ℕ → Type 0) where
   -- all successors of the number's node were visited

@@ -1,10 +1,19 @@
 -- The last element of a list.
-use Rattle.std.proofs.Common.{ℕ, ◌≡◌, ◌<◌, ◌+◌, ◌-◌, ◌∙◌, sym, ap, subst, arith, List, [], ◌∷◌, ◌++◌, length, take, take_all, Some, None, get_or}
-use Rattle.std.specs.Prelude.{slice_get}
+use Rattle.std.proofs.Common.{ℕ, ◌≡◌, ◌<◌, ◌+◌, ◌-◌, ◌∙◌, refl, sym, ap, subst, arith, List, [], ◌∷◌, ◌++◌, length, take, take_all, Some, None, get_or}
+use Rattle.std.specs.Prelude.{Contains, slice_get}
+use Rattle.std.proofs.lemmas.List.Elements.{Contains-append_left, Contains-append_right}
 use Rattle.std.proofs.lemmas.Option.{slice_get-get_or, slice_get_within}
 use Rattle.std.proofs.lemmas.List.{append_assoc, length-take-le, take_more}
 
 module _ {A : Type 0} where
+  -- what a list has with its last element
+  module _ (xs rest : List A) (x : A) (e : xs ≡ rest ++ x ∷ []) where
+    pub has_last : Contains xs x
+    has_last = subst (λ (ys : List A). Contains ys x) (sym e) (Contains-append_right rest (x ∷ []) x (0, omega arith, refl))
+
+    pub has_rest : (y : A) → Contains rest y → Contains xs y
+    has_rest y c = subst (λ (ys : List A). Contains ys y) (sym e) (Contains-append_left rest (x ∷ []) y c)
+
   pub none_last : (xs ys : List A) → ys ≡ xs → None ≡ slice_get ys (length ys - 1) → xs ≡ []
   none_last xs [] e h = sym e
   none_last xs (y ∷ ys) e h =

@@ -1,6 +1,6 @@
 //! Depth-first walks over numbers, one number at a time.
 
-ghost use Rattle.std.specs.Prelude.{◌≡◌, ◌↔◌, ◌⊎◌, ◌<◌, ◌≤◌, ◌+◌, ◌++◌, ◌∷◌, [], ℕ, Bool, List, Some, None, true, false, OnOk, OnErr, IfErr, MatchOption, length, slice_index_or, take, reverse, map, vec_capacity};
+ghost use Rattle.std.specs.Prelude.{◌≡◌, ◌↔◌, ◌⊎◌, ◌<◌, ◌≤◌, ◌+◌, ◌++◌, ◌∷◌, [], ℕ, Bool, List, Some, None, true, false, OnOk, OnErr, IfErr, MatchOption, length, slice_index_or, take, reverse, map, vec_capacity, Contains, ◌^◌};
 ghost use Rattle.std.specs.List.{AllByRecursion, AllZip};
 ghost use Rattle.pf_discovery.specs.declared.depth_first.Branch.{Branch};
 ghost use Rattle.pf_core.specs.Numbered.{Grows, NumbersInOrder};
@@ -10,13 +10,16 @@ use pf_base::{Cost, PathError};
 use pf_core::numbered::NumberedGraph;
 use std::alloc::Allocator;
 
+/// As many nodes as a walk can find, which keeps numbers of 32 bits.
+const MOST_FOUND: usize = 0x1_0000_0000;
+
 /// A way on from the tree path.
 #[derive(Copy, Clone)]
 pub struct Branch {
     /// The number that it leads to.
-    pub number: usize,
+    pub number: u32,
     /// How many numbers of the path it comes behind.
-    pub depth: usize,
+    pub depth: u32,
 }
 
 /// Where a walk stands that goes on to the first successor not yet visited, from the deepest number
@@ -24,7 +27,7 @@ pub struct Branch {
 #[derive(Drop)]
 pub struct DepthFirst<A: Allocator> {
     /// The numbers visited so far, in order.
-    pub given: Vec<usize, A>,
+    pub given: Vec<u32, A>,
     /// Whether a number was visited; later numbers were not.
     pub visited: Vec<bool, A>,
     /// The numbers from the first one to the one visited last, each a successor of the one before.
@@ -51,14 +54,18 @@ fn put_branches<A: Allocator>(
     waiting: &mut Vec<Branch, A>,
     numbers: &mut Vec<usize, A>,
     visited: &[bool],
-    depth: usize,
+    depth: u32,
 )
+    requires ends { (k : ℕ) → Contains numbers.old.items k → (k < length visited.now) × (k < 2 ^ 32) }
     requires room { length waiting.old.items + length numbers.old.items ≤ vec_capacity waiting.old }
     ensures put { waiting.new.items ≡ waiting.old.items ++ branches_at depth (reverse (not_visited visited.now numbers.old.items)) }
 {
     'numbers: while let Some(number) = numbers.pop() {
-        if !was_visited(visited, number) {
-            waiting.push_reserved(Branch { number, depth });
+        if !visited[number] {
+            waiting.push_reserved(Branch {
+                number: number as u32,
+                depth,
+            });
         }
     }
 }
@@ -91,7 +98,7 @@ impl<A: Allocator + Copy> DepthFirst<A> {
     {
         'branches: while let Some(branch) = self.waiting.last() {
             let branch = *branch;
-            if !was_visited(&self.visited, branch.number) {
+            if !was_visited(&self.visited, branch.number as usize) {
                 return Some(branch);
             }
             self.waiting.pop();
@@ -141,7 +148,7 @@ impl<A: Allocator + Copy> DepthFirst<A> {
         ensures refused { IfErr result (λ e. e ≡ PathError.OutOfMemory) }
     {
         let first = graph.node_count();
-        graph.expand(branch.number, &mut self.row)?;
+        graph.expand(branch.number as usize, &mut self.row)?;
         let found = graph.node_count();
         if let Err(refusal) = self.note(branch, found) {
             graph.forget(first);
@@ -157,11 +164,15 @@ impl<A: Allocator + Copy> DepthFirst<A> {
         ensures path { self.new.path.items ≡ self.old.path.items }
         ensures waiting { self.new.waiting.items ≡ self.old.waiting.items }
         ensures row { self.new.row.items ≡ self.old.row.items }
+        ensures few { OnOk result (found ≤ 2 ^ 32) }
         ensures wide { OnOk result (found ≤ length self.new.visited.items) }
         ensures room { OnOk result ((length self.new.given.items < vec_capacity self.new.given) × (length self.new.path.items < vec_capacity self.new.path)
             × (length self.new.waiting.items + length self.new.row.items ≤ vec_capacity self.new.waiting)) }
         ensures refused { IfErr result (λ e. e ≡ PathError.OutOfMemory) }
     {
+        if found > MOST_FOUND {
+            return Err(PathError::OutOfMemory);
+        }
         self.given.reserve(1)?;
         self.path.reserve(1)?;
         self.waiting.reserve(self.row.len())?;
@@ -174,6 +185,7 @@ impl<A: Allocator + Copy> DepthFirst<A> {
     /// Notes that the number of a branch was visited, and what follows it.
     fn note(&mut self, branch: Branch, found: usize) -> Result<(), PathError>
         requires inside { branch.number < found }
+        requires ends { (k : ℕ) → Contains self.old.row.items k → k < found }
         requires depth { branch.depth ≤ length self.old.path.items }
         ensures given { OnOk result (self.new.given.items ≡ self.old.given.items ++ branch.number ∷ []) }
         ensures visited { OnOk result ((k : ℕ) → IsVisited self.new.visited.items k ↔ (IsVisited self.old.visited.items k ⊎ (k ≡ branch.number))) }
@@ -183,16 +195,14 @@ impl<A: Allocator + Copy> DepthFirst<A> {
             × ((k : ℕ) → IsVisited self.new.visited.items k ↔ IsVisited self.old.visited.items k)) }
         ensures refused { IfErr result (λ e. e ≡ PathError.OutOfMemory) }
     {
+        let Some(depth) = branch.depth.checked_add(1) else {
+            return Err(PathError::OutOfMemory);
+        };
         self.make_room(found)?;
-        self.visited[branch.number] = true;
-        put_branches(
-            &mut self.waiting,
-            &mut self.row,
-            &self.visited,
-            branch.depth + 1,
-        );
-        self.path.truncate(branch.depth);
-        self.path.push_reserved(branch.number);
+        self.visited[branch.number as usize] = true;
+        put_branches(&mut self.waiting, &mut self.row, &self.visited, depth);
+        self.path.truncate(branch.depth as usize);
+        self.path.push_reserved(branch.number as usize);
         self.given.push_reserved(branch.number);
         Ok(())
     }

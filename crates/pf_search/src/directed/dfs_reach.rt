@@ -91,7 +91,7 @@ where
         match self.walk.next_branch() {
             None => Ok(None),
             Some(branch) => {
-                let node = self.graph.nodes.as_slice()[branch.number].clone()?;
+                let node = self.graph.nodes.as_slice()[branch.number as usize].clone()?;
                 self.walk.visit(&mut self.graph, branch)?;
                 Ok(Some(node))
             }

@@ -1,7 +1,7 @@
-use Rattle.std.proofs.Common.{ℕ, refl, subst, sym, ◌∙◌}
+use Rattle.std.proofs.Common.{ℕ, ◌<◌, Contains, refl, subst, sym, ◌∙◌}
 use Rattle.std.proofs.lemmas.Result.{IfOk-from_err}
 use Rattle.std.specs.List.{AllZip}
-use Rattle.pf_discovery.proofs.DepthFirstLemmas.{ends_stand}
+use Rattle.pf_discovery.proofs.DepthFirstLemmas.{ends_stand, end_of_step}
 use Rattle.pf_core.proofs.SearchLemmas.{Grows-back}
 use Rattle.pf_base.proofs.Outcomes.{on_err, refused_as}
 use Rattle.pf_core.proofs.ReadLemmas.{within_found}
@@ -65,3 +65,6 @@ returns g c = record {
 
 pub forget-requires : goal.forget-requires
 forget-requires g c = subst (λ (n : ℕ). g.G.NumberedGraph.can_forget c.expand.new.self n) (sym c.node_count-first.ensures) c.expand.ensures.back
+
+pub note-requires-clause-ends : goal.note-requires-clause-ends
+note-requires-clause-ends g c = λ k h. let p = c.in_ok-expand.ensures.listed in let q = end_of_step p.0 k (subst (λ ns. Contains ns k) p.1 h) in subst (λ n. k < n) (sym c.node_count-found.ensures) (p.2 k q.0 q.1)

@@ -1,6 +1,6 @@
 use Rattle.std.proofs.Common.{◌∙◌, refl, sym, [], ◌∷◌}
 use Rattle.std.proofs.lemmas.List.{append-nil}
-use Rattle.pf_discovery.proofs.DepthFirstLemmas.{seen_visited, seen_unvisited}
+use Rattle.pf_discovery.proofs.MarkLemmas.{seen_visited, seen_unvisited}
 use Rattle.pf_discovery.proofs.LastLemmas.{last_split, none_last, taken_shorter, taken_split}
 use Rattle.pf_discovery.proofs.depth_first.DepthFirst.waiting_branch.Goals as goal
 
