@@ -31,7 +31,7 @@ pub struct DepthFirst<A: Allocator> {
     /// Whether a number was visited; later numbers were not.
     pub visited: Vec<bool, A>,
     /// The numbers from the first one to the one visited last, each a successor of the one before.
-    pub path: Vec<usize, A>,
+    pub path: Vec<u32, A>,
     /// The branches of the path that wait, the next one last.
     pub waiting: Vec<Branch, A>,
     /// Room for an answer.
@@ -56,12 +56,12 @@ fn put_branches<A: Allocator>(
     visited: &[bool],
     depth: u32,
 )
-    requires ends { (k : ℕ) → Contains numbers.old.items k → (k < length visited.now) × (k < 2 ^ 32) }
+    requires ends { (k : ℕ) → Contains numbers.old.items k → k < 2 ^ 32 }
     requires room { length waiting.old.items + length numbers.old.items ≤ vec_capacity waiting.old }
     ensures put { waiting.new.items ≡ waiting.old.items ++ branches_at depth (reverse (not_visited visited.now numbers.old.items)) }
 {
     'numbers: while let Some(number) = numbers.pop() {
-        if !visited[number] {
+        if !was_visited(visited, number) {
             waiting.push_reserved(Branch {
                 number: number as u32,
                 depth,
@@ -157,15 +157,16 @@ impl<A: Allocator + Copy> DepthFirst<A> {
         Ok(())
     }
 
-    /// Makes room to note one more number, where so many were found. Nothing that was noted changes.
-    fn make_room(&mut self, found: usize) -> Result<(), PathError>
+    /// Makes room to note a number, where so many were found. Nothing that was noted changes.
+    fn make_room(&mut self, number: usize, found: usize) -> Result<(), PathError>
+        requires { number < found }
         ensures given { self.new.given.items ≡ self.old.given.items }
         ensures visited { (k : ℕ) → IsVisited self.new.visited.items k ↔ IsVisited self.old.visited.items k }
         ensures path { self.new.path.items ≡ self.old.path.items }
         ensures waiting { self.new.waiting.items ≡ self.old.waiting.items }
         ensures row { self.new.row.items ≡ self.old.row.items }
         ensures few { OnOk result (found ≤ 2 ^ 32) }
-        ensures wide { OnOk result (found ≤ length self.new.visited.items) }
+        ensures wide { OnOk result (number < length self.new.visited.items) }
         ensures room { OnOk result ((length self.new.given.items < vec_capacity self.new.given) × (length self.new.path.items < vec_capacity self.new.path)
             × (length self.new.waiting.items + length self.new.row.items ≤ vec_capacity self.new.waiting)) }
         ensures refused { IfErr result (λ e. e ≡ PathError.OutOfMemory) }
@@ -176,8 +177,8 @@ impl<A: Allocator + Copy> DepthFirst<A> {
         self.given.reserve(1)?;
         self.path.reserve(1)?;
         self.waiting.reserve(self.row.len())?;
-        if self.visited.len() < found {
-            self.visited.resize(found, false)?;
+        if self.visited.len() <= number {
+            self.visited.resize(number + 1, false)?;
         }
         Ok(())
     }
@@ -198,11 +199,12 @@ impl<A: Allocator + Copy> DepthFirst<A> {
         let Some(depth) = branch.depth.checked_add(1) else {
             return Err(PathError::OutOfMemory);
         };
-        self.make_room(found)?;
-        self.visited[branch.number as usize] = true;
+        let number = branch.number as usize;
+        self.make_room(number, found)?;
+        self.visited[number] = true;
         put_branches(&mut self.waiting, &mut self.row, &self.visited, depth);
         self.path.truncate(branch.depth as usize);
-        self.path.push_reserved(branch.number as usize);
+        self.path.push_reserved(branch.number);
         self.given.push_reserved(branch.number);
         Ok(())
     }

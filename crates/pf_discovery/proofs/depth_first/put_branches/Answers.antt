@@ -21,14 +21,11 @@ module _ (d n : ℕ) (visited : List Bool) (all numbers rest done : List ℕ) (s
   left_out : slice_index_or visited n false ≡ true → waiting ≡ start ++ branches_at d (reverse (not_visited visited (n ∷ done)))
   left_out seen = is ∙ ap (λ (b : Bool). start ++ branches_at d (reverse (cond (not b) (n ∷ not_visited visited done) (not_visited visited done)))) (sym seen)
 
-pub bounds-visited-number : goal.bounds-visited-number
-bounds-visited-number g c = (c.numbers.invariant.ends _ (has_last _ _ _ c.in-Some.ensures.items)).0
-
 pub overflow_cast-number : goal.overflow_cast-number
-overflow_cast-number g c = omega (arith, (c.numbers.invariant.ends _ (has_last _ _ _ c.in-Some.ensures.items)).1)
+overflow_cast-number g c = omega (arith, (c.numbers.invariant.ends _ (has_last _ _ _ c.in-Some.ensures.items)))
 
-pub numbers-preserved-then-not-visited-number : goal.numbers-preserved-then-not-visited-number
-numbers-preserved-then-not-visited-number g c =
+pub numbers-preserved-then-not-was_visited : goal.numbers-preserved-then-not-was_visited
+numbers-preserved-then-not-was_visited g c =
     let i = c.numbers.invariant in
     let out = c.in-Some.ensures.items in
     let put = c.push_reserved.ensures in
@@ -38,7 +35,7 @@ numbers-preserved-then-not-visited-number g c =
       put = (
         c.in-Some.number ∷ i.put.0,
         more_done c.args.depth c.in-Some.number c.args.visited.now _ _ _ i.put.0 _ _ i.put.1 out i.put.2,
-        put_more c.args.depth c.in-Some.number c.args.visited.now _ _ _ i.put.0 _ _ i.put.1 out i.put.2 c.if-not-visited-number.true _ put.items,
+        put_more c.args.depth c.in-Some.number c.args.visited.now _ _ _ i.put.0 _ _ i.put.1 out i.put.2 (sym c.was_visited.ensures ∙ c.if-not-was_visited.true) _ put.items,
       );
     }
 
@@ -52,6 +49,6 @@ numbers-preserved g c =
       put = (
         c.in-Some.number ∷ i.put.0,
         more_done c.args.depth c.in-Some.number c.args.visited.now _ _ _ i.put.0 _ _ i.put.1 out i.put.2,
-        left_out c.args.depth c.in-Some.number c.args.visited.now _ _ _ i.put.0 _ _ i.put.1 out i.put.2 c.if-not-visited-number.false,
+        left_out c.args.depth c.in-Some.number c.args.visited.now _ _ _ i.put.0 _ _ i.put.1 out i.put.2 (sym c.was_visited.ensures ∙ c.if-not-was_visited.false),
       );
     }
