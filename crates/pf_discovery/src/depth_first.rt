@@ -6,12 +6,16 @@ ghost use Rattle.pf_discovery.specs.declared.depth_first.Branch.{Branch};
 ghost use Rattle.pf_core.specs.Numbered.{Grows, NumbersInOrder};
 ghost use Rattle.pf_discovery.specs.DepthFirst.{IsVisited, IsNextBranch, branches_at, not_visited};
 
+use crate::given::Given;
 use pf_base::{Cost, PathError};
 use pf_core::numbered::NumberedGraph;
 use std::alloc::Allocator;
 
 /// As many nodes as a walk can find, which keeps numbers of 32 bits.
 const MOST_FOUND: usize = 0x1_0000_0000;
+
+/// As many numbers as a walk can give.
+const MOST_GIVEN: usize = 0xFFFF_FFFF;
 
 /// A way on from the tree path.
 #[derive(Copy, Clone)]
@@ -27,7 +31,7 @@ pub struct Branch {
 #[derive(Drop)]
 pub struct DepthFirst<A: Allocator> {
     /// The numbers visited so far, in order.
-    pub given: Vec<u32, A>,
+    pub given: Given,
     /// Whether a number was visited; later numbers were not.
     pub visited: Vec<bool, A>,
     /// The numbers from the first one to the one visited last, each a successor of the one before.
@@ -73,13 +77,13 @@ fn put_branches<A: Allocator>(
 impl<A: Allocator + Copy> DepthFirst<A> {
     /// A walk that has visited nothing.
     pub fn new(alloc: A) -> DepthFirst<A>
-        ensures given { result.given.items ≡ [] }
+        ensures given { result.given ≡ [] }
         ensures visited { result.visited.items ≡ [] }
         ensures path { result.path.items ≡ [] }
         ensures waiting { result.waiting.items ≡ [] }
     {
         DepthFirst {
-            given: Vec::new(alloc),
+            given: Given::new(),
             visited: Vec::new(alloc),
             path: Vec::new(alloc),
             waiting: Vec::new(alloc),
@@ -89,7 +93,7 @@ impl<A: Allocator + Copy> DepthFirst<A> {
 
     /// The branch that waits first, whose number was not visited. Branches to visited numbers are dropped.
     fn waiting_branch(&mut self) -> Option<Branch>
-        ensures given { self.new.given.items ≡ self.old.given.items }
+        ensures given { self.new.given ≡ self.old.given }
         ensures visited { self.new.visited.items ≡ self.old.visited.items }
         ensures path { self.new.path.items ≡ self.old.path.items }
         ensures dropped { (passed : List Branch) × (self.old.waiting.items ≡ self.new.waiting.items ++ passed) × AllByRecursion (λ (b : Branch). IsVisited self.old.visited.items b.number) passed }
@@ -109,12 +113,12 @@ impl<A: Allocator + Copy> DepthFirst<A> {
     /// The branch to the number that comes next: the first number, where none was visited. Branches to
     /// visited numbers are dropped.
     pub fn next_branch(&mut self) -> Option<Branch>
-        ensures given { self.new.given.items ≡ self.old.given.items }
+        ensures given { self.new.given ≡ self.old.given }
         ensures visited { self.new.visited.items ≡ self.old.visited.items }
         ensures path { self.new.path.items ≡ self.old.path.items }
         ensures dropped { (passed : List Branch) × (self.old.waiting.items ≡ self.new.waiting.items ++ passed) × AllByRecursion (λ (b : Branch). IsVisited self.old.visited.items b.number) passed }
-        ensures next { MatchOption result ((self.new.waiting.items ≡ []) × ¬ (length self.new.given.items ≡ 0))
-            (λ b. IsNextBranch (length self.new.given.items) self.new.visited.items self.new.waiting.items b) }
+        ensures next { MatchOption result ((self.new.waiting.items ≡ []) × ¬ (length self.new.given ≡ 0))
+            (λ b. IsNextBranch (length self.new.given) self.new.visited.items self.new.waiting.items b) }
     {
         if self.given.is_empty() {
             return Some(Branch {
@@ -137,13 +141,14 @@ impl<A: Allocator + Copy> DepthFirst<A> {
         requires depth { branch.depth ≤ length self.old.path.items }
         ensures grows { Grows (G.node_count graph.old) (G.node_count graph.new) (G.stands graph.old) (G.stands graph.new) }
         ensures graph { (g : G.Graph) → G.explores graph.old g → G.explores graph.new g }
-        ensures given { OnOk result (self.new.given.items ≡ self.old.given.items ++ branch.number ∷ []) }
+        ensures given { OnOk result (self.new.given ≡ self.old.given ++ branch.number ∷ []) }
+        ensures few { OnOk result (length self.new.given < 2 ^ 32) }
         ensures visited { OnOk result ((k : ℕ) → IsVisited self.new.visited.items k ↔ (IsVisited self.old.visited.items k ⊎ (k ≡ branch.number))) }
         ensures path { OnOk result (self.new.path.items ≡ take branch.depth self.old.path.items ++ branch.number ∷ []) }
         ensures waiting { OnOk result ((numbers : List ℕ) × (self.new.waiting.items ≡ self.old.waiting.items ++ branches_at (length self.new.path.items) (reverse (not_visited self.new.visited.items numbers)))
             × ((g : G.Graph) → G.explores graph.old g → (x : G.Node) → G.stands graph.old branch.number x → AllZip (G.stands graph.new) numbers (G.successors g x))) }
         ensures ordered { OnOk result ((g : G.Graph) → G.explores graph.old g → (x : G.Node) → G.stands graph.old branch.number x → NumbersInOrder (G.stands graph.new) (G.node_count graph.old) (G.successors g x) (G.node_count graph.new)) }
-        ensures kept { OnErr result ((self.new.given.items ≡ self.old.given.items) × (self.new.path.items ≡ self.old.path.items) × (self.new.waiting.items ≡ self.old.waiting.items)
+        ensures kept { OnErr result ((self.new.given ≡ self.old.given) × (self.new.path.items ≡ self.old.path.items) × (self.new.waiting.items ≡ self.old.waiting.items)
             × ((k : ℕ) → IsVisited self.new.visited.items k ↔ IsVisited self.old.visited.items k) × (G.node_count graph.new ≡ G.node_count graph.old)) }
         ensures refused { IfErr result (λ e. e ≡ PathError.OutOfMemory) }
     {
@@ -160,21 +165,20 @@ impl<A: Allocator + Copy> DepthFirst<A> {
     /// Makes room to note a number, where so many were found. Nothing that was noted changes.
     fn make_room(&mut self, number: usize, found: usize) -> Result<(), PathError>
         requires { number < found }
-        ensures given { self.new.given.items ≡ self.old.given.items }
+        ensures given { self.new.given ≡ self.old.given }
         ensures visited { (k : ℕ) → IsVisited self.new.visited.items k ↔ IsVisited self.old.visited.items k }
         ensures path { self.new.path.items ≡ self.old.path.items }
         ensures waiting { self.new.waiting.items ≡ self.old.waiting.items }
         ensures row { self.new.row.items ≡ self.old.row.items }
         ensures few { OnOk result (found ≤ 2 ^ 32) }
         ensures wide { OnOk result (number < length self.new.visited.items) }
-        ensures room { OnOk result ((length self.new.given.items < vec_capacity self.new.given) × (length self.new.path.items < vec_capacity self.new.path)
+        ensures room { OnOk result ((length self.new.given + 1 < 2 ^ 32) × (length self.new.path.items < vec_capacity self.new.path)
             × (length self.new.waiting.items + length self.new.row.items ≤ vec_capacity self.new.waiting)) }
         ensures refused { IfErr result (λ e. e ≡ PathError.OutOfMemory) }
     {
-        if found > MOST_FOUND {
+        if found > MOST_FOUND || self.given.len() >= MOST_GIVEN {
             return Err(PathError::OutOfMemory);
         }
-        self.given.reserve(1)?;
         self.path.reserve(1)?;
         self.waiting.reserve(self.row.len())?;
         if self.visited.len() <= number {
@@ -188,11 +192,12 @@ impl<A: Allocator + Copy> DepthFirst<A> {
         requires inside { branch.number < found }
         requires ends { (k : ℕ) → Contains self.old.row.items k → k < found }
         requires depth { branch.depth ≤ length self.old.path.items }
-        ensures given { OnOk result (self.new.given.items ≡ self.old.given.items ++ branch.number ∷ []) }
+        ensures given { OnOk result (self.new.given ≡ self.old.given ++ branch.number ∷ []) }
+        ensures few { OnOk result (length self.new.given < 2 ^ 32) }
         ensures visited { OnOk result ((k : ℕ) → IsVisited self.new.visited.items k ↔ (IsVisited self.old.visited.items k ⊎ (k ≡ branch.number))) }
         ensures path { OnOk result (self.new.path.items ≡ take branch.depth self.old.path.items ++ branch.number ∷ []) }
         ensures waiting { OnOk result (self.new.waiting.items ≡ self.old.waiting.items ++ branches_at (length self.new.path.items) (reverse (not_visited self.new.visited.items self.old.row.items))) }
-        ensures kept { OnErr result ((self.new.given.items ≡ self.old.given.items) × (self.new.path.items ≡ self.old.path.items) × (self.new.waiting.items ≡ self.old.waiting.items)
+        ensures kept { OnErr result ((self.new.given ≡ self.old.given) × (self.new.path.items ≡ self.old.path.items) × (self.new.waiting.items ≡ self.old.waiting.items)
             × ((k : ℕ) → IsVisited self.new.visited.items k ↔ IsVisited self.old.visited.items k)) }
         ensures refused { IfErr result (λ e. e ≡ PathError.OutOfMemory) }
     {
@@ -205,7 +210,7 @@ impl<A: Allocator + Copy> DepthFirst<A> {
         put_branches(&mut self.waiting, &mut self.row, &self.visited, depth);
         self.path.truncate(branch.depth as usize);
         self.path.push_reserved(branch.number);
-        self.given.push_reserved(branch.number);
+        self.given.push(branch.number);
         Ok(())
     }
 }

@@ -54,6 +54,7 @@ where
 }
 
 impl<M: Numbering, F, A: Allocator> Model for DfsReachableBy<M, F, A> {
+    ghost use Rattle.std.specs.Prelude.{◌<◌, ◌^◌, length};
     ghost use Rattle.pf_search.specs.DepthWalks.{DepthWalk, walk_code};
     ghost use Rattle.pf_search.specs.Internal.Breadth.{found_or};
     ghost use Rattle.pf_search.specs.Internal.Depth.{stack_of, walk_with, ArePlaces};
@@ -64,7 +65,7 @@ impl<M: Numbering, F, A: Allocator> Model for DfsReachableBy<M, F, A> {
 
     ghost view = { λ s. walk_with (found_or s.start (M.keys s.graph.nodes)) (stack_of s.walk) s.refused s.graph.source.function };
 
-    ghost invariant = { λ s. ArePlaces s.start (M.keys s.graph.nodes) s.walk.given.items };
+    ghost invariant = { λ s. ArePlaces s.start (M.keys s.graph.nodes) s.walk.given × (length s.walk.given < 2 ^ 32) };
 }
 
 impl<N, M, F, A> DfsReachableBy<M, F, A>
