@@ -2,7 +2,8 @@ pub mod SourceLemmas
 pub mod LoopLemmas
 pub mod LoopWalks
 pub mod DepthFirstLemmas
-pub mod VisitLemmas
+pub mod LastLemmas
+pub mod MarkLemmas
 mod PlaceLemmas
 pub mod ResultLemmas
 pub mod StillLemmas

@@ -1,6 +1,5 @@
 -- Where a depth-first walk over numbers stands.
-use Rattle.std.specs.Prelude.{◌≡◌, ◌+◌, ◌⊎◌, ℕ, Bool, true, List, [], ◌∷◌, ◌++◌, Some, slice_get, Contains, map, length}
-use Rattle.std.specs.List.{AllZip}
+use Rattle.std.specs.Prelude.{◌≡◌, ◌+◌, ◌⊎◌, ℕ, Bool, true, false, List, [], ◌∷◌, ◌++◌, Some, slice_get, slice_index_or, Contains, map, filter, not, length}
 use Rattle.pf_discovery.specs.declared.depth_first.Branch.{Branch}
 
 -- the number was visited
@@ -15,21 +14,27 @@ IsNextBranch given visited waiting b = ((given ≡ 0) × (b.number ≡ 0) × (b.
 abbrev pub branches_at : ℕ → List ℕ → List Branch
 branches_at depth numbers = map (λ (n : ℕ). record { number = n; depth = depth }) numbers
 
+-- those of the numbers that were not visited
+abbrev pub not_visited : List Bool → List ℕ → List ℕ
+not_visited visited numbers = filter (λ n. not (slice_index_or visited n false)) numbers
+
 module _ {X : Type 0} (successors : X → List X) (stands : ℕ → X → Type 0) (visited : ℕ → Type 0) where
+  -- a number that stands for the node was visited
+  abbrev pub WasVisited : X → Type 0
+  WasVisited y = (j : ℕ) × visited j × stands j y
+
   -- each node of the list has a number that was visited
   abbrev pub AreVisited : List X → Type 0
-  AreVisited ys = (y : X) → Contains ys y → (j : ℕ) × visited j × stands j y
+  AreVisited ys = (y : X) → Contains ys y → WasVisited y
 
-  -- these numbers stand for the successors of the number's node that wait, in order; those before them were visited
-  pub record IsRest (k : ℕ) (numbers : List ℕ) (x : X) : Type 0 where
-    pub before : List X
-    pub after : List X
-    pub split : successors x ≡ before ++ after
-    pub done : AreVisited before
-    pub left : AllZip stands numbers after
+  -- these numbers stand for nodes of the list, in order; the other nodes were visited
+  abbrev pub AreLeft : List ℕ → List X → Type 0
+  AreLeft numbers [] = numbers ≡ []
+  AreLeft [] (y ∷ ys) = WasVisited y × AreLeft [] ys
+  AreLeft (n ∷ numbers) (y ∷ ys) = (stands n y × AreLeft numbers ys) ⊎ (WasVisited y × AreLeft (n ∷ numbers) ys)
 
-  -- What waits, the next one first, is what is left at the nodes of the path, the deepest first. Each number of the path stands for a node.
+  -- What waits, the next one first, is what is left at the nodes of the path, the deepest first: the successors that were not visited, and some that were. Each number of the path stands for a node.
   abbrev pub IsPending : List ℕ → List Branch → Type 0
   IsPending [] waiting = waiting ≡ []
   IsPending (k ∷ up) waiting = (own : List ℕ) × (rest : List Branch) × (waiting ≡ branches_at (length up + 1) own ++ rest)
-      × ((x : X) × stands k x) × ((x : X) → stands k x → IsRest k own x) × IsPending up rest
+      × ((x : X) × stands k x) × ((x : X) → stands k x → AreLeft own (successors x)) × IsPending up rest

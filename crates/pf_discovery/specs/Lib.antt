@@ -1,4 +1,5 @@
 pub mod Sources
+pub mod Given
 pub mod Loops
 pub mod DepthFirst
 pub mod ExploredHops

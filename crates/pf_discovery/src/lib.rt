@@ -8,6 +8,7 @@
 pub mod bfs_loop;
 pub mod depth_first;
 pub mod discovery;
+pub mod given;
 pub mod numbering;
 pub mod source;
 pub mod tested;

@@ -14,14 +14,14 @@ use Rattle.pf_base.specs.declared.error.PathError.{PathError}
 use Rattle.pf_base.proofs.Callers.{SameNodes-refl}
 use Rattle.pf_base.specs.Orders.{found_from, last_nodes, IsNextPath, IsNextTreePath, IsPreorder, IsWholePreorder}
 use Rattle.pf_discovery.specs.declared.depth_first.Branch.{Branch}
-use Rattle.pf_discovery.specs.DepthFirst.{IsVisited, IsNextBranch, branches_at, AreVisited, IsPending}
+use Rattle.pf_discovery.specs.DepthFirst.{IsVisited, IsNextBranch, branches_at, not_visited, AreVisited, IsPending}
 use Rattle.pf_core.specs.NodeLaws.{StandsFor-inside, StandsFor-one}
 use Rattle.pf_core.specs.Numbered.{Grows, NumbersInOrder}
 use Rattle.pf_base.specs.Edges.{targets}
 use Rattle.pf_core.specs.Nodes.{StandsFor, Explores}
 use Rattle.pf_discovery.specs.Sources.{AnswersHops}
 use Rattle.pf_core.specs.Hops.{unit_edges}
-use Rattle.pf_discovery.proofs.DepthFirstLemmas.{IsSpent, drop_passed, all_spent, way_on, visit_pending, pending_stays, cut_path}
+use Rattle.pf_discovery.proofs.DepthFirstLemmas.{IsSpent, drop_passed, all_spent, way_on, unvisited_left, visit_pending, pending_stays, cut_path}
 use Rattle.pf_core.proofs.NodeLemmas.{eq-sym, eq-trans, StandsFor-same}
 use Rattle.pf_discovery.proofs.SourceLemmas.{Explores-successors}
 use Rattle.pf_base.proofs.ListLemmas.{AllZip-append}
@@ -217,7 +217,7 @@ module _ {N F : Type 0} (eq : N → N → Bool) (laws : IsEquivalence eq) (next 
     pub visited : (k : ℕ) → IsVisited t.stack.visited k ↔ (IsVisited s.stack.visited k ⊎ (k ≡ b.number))
     pub path : t.stack.path ≡ take b.depth s.stack.path ++ b.number ∷ []
     pub numbers : List ℕ
-    pub waiting : t.stack.waiting ≡ s.stack.waiting ++ branches_at (length t.stack.path) (reverse numbers)
+    pub waiting : t.stack.waiting ≡ s.stack.waiting ++ branches_at (length t.stack.path) (reverse (not_visited t.stack.visited numbers))
     pub lists : (x : N) → StandsFor eq s.found b.number x → AllZip (StandsFor eq t.found) numbers (next x)
     pub found : (x : N) → StandsFor eq s.found b.number x → SameNodes eq (insert_all eq s.found (next x)) t.found
 
@@ -297,10 +297,10 @@ module _ {N F : Type 0} (eq : N → N → Bool) (laws : IsEquivalence eq) (next 
       (subst (λ l. AllZip (StandsFor eq t.found) l (kept ++ first ∷ [])) (sym path')
       (AllZip-append (StandsFor eq t.found) (reverse (k.here ∷ k.up)) kept b.number first (AllZip-map S (StandsFor eq t.found) (λ i x. v.stays i x) (reverse (k.here ∷ k.up)) kept zip.3) (v.stays b.number first n.5)))
       (subst (λ l. IsPending next (StandsFor eq t.found) (IsVisited t.stack.visited) l (reverse t.stack.waiting)) (sym back)
-      (visit_pending next S (StandsFor eq t.found) V (IsVisited t.stack.visited) v.stays (λ i x y a c. v.back i y (StandsFor-inside eq s.found i x a) c) (λ i o. (v.visited i).1 (inl o)) (k.here ∷ k.up) v.numbers s.stack.waiting t.stack.waiting b first
+      (visit_pending next S (StandsFor eq t.found) V (IsVisited t.stack.visited) v.stays (λ i x y a c. v.back i y (StandsFor-inside eq s.found i x a) c) (λ i o. (v.visited i).1 (inl o)) (k.here ∷ k.up) (not_visited t.stack.visited v.numbers) s.stack.waiting t.stack.waiting b first
       (subst (λ l. IsPending next S V (k.here ∷ k.up) l) (sym order) k.pending) (v.stays b.number first n.5)
-      (λ y a. v.lists y (v.back b.number y (StandsFor-inside eq s.found b.number first n.5) a))
-      (v.waiting ∙ ap (λ m. s.stack.waiting ++ branches_at m (reverse v.numbers)) long))))
+      (λ y a. unvisited_left next (StandsFor eq t.found) t.stack.visited v.numbers (next y) (v.lists y (v.back b.number y (StandsFor-inside eq s.found b.number first n.5) a)))
+      (v.waiting ∙ ap (λ m. s.stack.waiting ++ branches_at m (reverse (not_visited t.stack.visited v.numbers))) long))))
     where
       by : {kept : List N} {G : Type 0} (S : ℕ → N → Type 0) (k : ℕ) (front ends : List N) → kept ≡ front ++ ends → AllZip S (k ∷ []) ends → ((front : List N) (here : N) → kept ≡ front ++ here ∷ [] → S k here → G) → G
       by S k front [] e z f = absurd z
@@ -318,9 +318,9 @@ module _ {N F : Type 0} (eq : N → N → Bool) (laws : IsEquivalence eq) (next 
       let nothing : reverse s.stack.waiting ≡ [] = subst (λ l. IsPending next (StandsFor eq s.found) (IsVisited s.stack.visited) (reverse l) (reverse s.stack.waiting)) empty h.stack.pending in
       went [] s t b [] start h v refl at (subst (λ l. AllZip S' l (start ∷ [])) (sym path') (v.stays b.number start at, tt))
       (subst (λ l. IsPending next S' (IsVisited t.stack.visited) (reverse l) (reverse t.stack.waiting)) (sym path')
-      (visit_pending next (StandsFor eq s.found) S' (IsVisited s.stack.visited) (IsVisited t.stack.visited) v.stays (λ i x y a c. v.back i y (StandsFor-inside eq s.found i x a) c) (λ i o. (v.visited i).1 (inl o)) [] v.numbers s.stack.waiting t.stack.waiting b start
-      nothing (v.stays b.number start at) (λ y a. v.lists y (v.back b.number y (StandsFor-inside eq s.found b.number start at) a))
-      (v.waiting ∙ ap (λ m. s.stack.waiting ++ branches_at m (reverse v.numbers)) (ap length path'))))
+      (visit_pending next (StandsFor eq s.found) S' (IsVisited s.stack.visited) (IsVisited t.stack.visited) v.stays (λ i x y a c. v.back i y (StandsFor-inside eq s.found i x a) c) (λ i o. (v.visited i).1 (inl o)) [] (not_visited t.stack.visited v.numbers) s.stack.waiting t.stack.waiting b start
+      nothing (v.stays b.number start at) (λ y a. unvisited_left next S' t.stack.visited v.numbers (next y) (v.lists y (v.back b.number y (StandsFor-inside eq s.found b.number start at) a)))
+      (v.waiting ∙ ap (λ m. s.stack.waiting ++ branches_at m (reverse (not_visited t.stack.visited v.numbers))) (ap length path'))))
     where
       no_path : (ks : List ℕ) → AllZip (StandsFor eq s.found) ks [] → ks ≡ []
       no_path [] z = refl
@@ -426,7 +426,7 @@ module _ {N F : Type 0} (eq : N → N → Bool) (laws : IsEquivalence eq) (answe
 
     -- a visit goes along the next tree path
     pub visited_node : (b : Branch) (node here : N) → IsNextBranch (length s.stack.given) s.stack.visited s.stack.waiting b → t.stack.given ≡ s.stack.given ++ b.number ∷ [] → ((k : ℕ) → IsVisited t.stack.visited k ↔ (IsVisited s.stack.visited k ⊎ (k ≡ b.number))) → t.stack.path ≡ take b.depth s.stack.path ++ b.number ∷ []
-        → (numbers : List ℕ) → t.stack.waiting ≡ s.stack.waiting ++ branches_at (length t.stack.path) (reverse numbers) → ((x : N) → StandsFor eq s.found b.number x → AllZip (StandsFor eq t.found) numbers (targets (unit_edges next) x))
+        → (numbers : List ℕ) → t.stack.waiting ≡ s.stack.waiting ++ branches_at (length t.stack.path) (reverse (not_visited t.stack.visited numbers)) → ((x : N) → StandsFor eq s.found b.number x → AllZip (StandsFor eq t.found) numbers (targets (unit_edges next) x))
         → ((x : N) → StandsFor eq s.found b.number x → NumbersInOrder (StandsFor eq t.found) (length s.found) (targets (unit_edges next) x) (length t.found))
         → slice_get s.found b.number ≡ Some here → eq here node ≡ true
         → (path : List N) × IsNextTreePath eq next start (last_nodes paths) (end_of [] paths) path × SameNodes eq (last_nodes (path ∷ [])) (node ∷ []) × IsDepthWalk eq answers next start (paths ++ path ∷ []) t

@@ -13,7 +13,7 @@ nodes_at nodes places = filter_map (slice_get nodes) places
 
 -- the stack of a walk over numbers
 abbrev pub stack_of : {Z : Type 0} → DepthFirst Z → DepthStack
-stack_of walk = record { given = walk.given.items; visited = walk.visited.items; path = walk.path.items; waiting = walk.waiting.items }
+stack_of walk = record { given = walk.given; visited = walk.visited.items; path = walk.path.items; waiting = walk.waiting.items }
 
 -- the walk that found these nodes and has this stack
 abbrev pub walk_with : {N F : Type 0} → List N → DepthStack → Bool → F → DepthWalk N F

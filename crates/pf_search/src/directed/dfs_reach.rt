@@ -14,7 +14,6 @@ ghost use Rattle.pf_search.specs.Items.{most_items};
 use crate::directed::bfs_reach::put_start;
 use indexmap::IndexSet;
 use pf_base::{PathError, SuccessorFunction};
-use pf_core::clones::clones_at;
 use pf_core::numbered::NumberedGraph;
 use pf_discovery::depth_first::DepthFirst;
 use pf_discovery::discovery::{DiscoveryBy, Nodes};
@@ -36,7 +35,26 @@ pub struct DfsReachableBy<M: Numbering, F, A: Allocator> {
 /// The nodes in reach of a start in preorder, each as a `Result`: made by `dfs_reach`.
 pub type DfsReachable<N, F, A = Global> = DfsReachableBy<Nodes<N, A>, F, A>;
 
+/// Clones of the nodes that the numbers of a path stand for.
+fn clones_along<N, A>(alloc: A, nodes: &[N], numbers: &[u32]) -> Result<Vec<N, A>, PathError>
+where
+    N: Eq + Clone + Drop,
+    A: Allocator + Copy,
+    requires inside { (k : ℕ) → Contains numbers.now k → k < length nodes.now }
+    requires clones { IsLawfulClone N.eq N.is_clone }
+    ensures nodes { IfOk result (λ path. AllZip (StandsFor N.eq nodes.now) numbers.now path.items) }
+    ensures refused { IfErr result (λ e. e ≡ PathError.OutOfMemory) }
+{
+    let mut path = Vec::with_capacity(alloc, numbers.len())?;
+    'numbers: for number in numbers {
+        let node = nodes[*number as usize].clone()?;
+        path.push(node)?;
+    }
+    Ok(path)
+}
+
 impl<M: Numbering, F, A: Allocator> Model for DfsReachableBy<M, F, A> {
+    ghost use Rattle.std.specs.Prelude.{◌<◌, ◌^◌, length};
     ghost use Rattle.pf_search.specs.DepthWalks.{DepthWalk, walk_code};
     ghost use Rattle.pf_search.specs.Internal.Breadth.{found_or};
     ghost use Rattle.pf_search.specs.Internal.Depth.{stack_of, walk_with, ArePlaces};
@@ -47,7 +65,7 @@ impl<M: Numbering, F, A: Allocator> Model for DfsReachableBy<M, F, A> {
 
     ghost view = { λ s. walk_with (found_or s.start (M.keys s.graph.nodes)) (stack_of s.walk) s.refused s.graph.source.function };
 
-    ghost invariant = { λ s. ArePlaces s.start (M.keys s.graph.nodes) s.walk.given.items };
+    ghost invariant = { λ s. ArePlaces s.start (M.keys s.graph.nodes) s.walk.given × (length s.walk.given < 2 ^ 32) };
 }
 
 impl<N, M, F, A> DfsReachableBy<M, F, A>
@@ -91,7 +109,7 @@ where
         match self.walk.next_branch() {
             None => Ok(None),
             Some(branch) => {
-                let node = self.graph.nodes.as_slice()[branch.number].clone()?;
+                let node = self.graph.nodes.as_slice()[branch.number as usize].clone()?;
                 self.walk.visit(&mut self.graph, branch)?;
                 Ok(Some(node))
             }
@@ -113,7 +131,7 @@ where
         ensures nodes { IfOk result (λ path. AllZip (StandsFor N.eq self.now.found) self.now.stack.path path.items) }
         ensures refused { IfErr result (λ e. e ≡ PathError.OutOfMemory) }
     {
-        clones_at(alloc, self.graph.nodes.as_slice(), &self.walk.path)
+        clones_along(alloc, self.graph.nodes.as_slice(), &self.walk.path)
     }
 }
 

@@ -1,7 +1,7 @@
-use Rattle.std.proofs.Common.{ℕ, refl, subst, sym, ◌∙◌}
+use Rattle.std.proofs.Common.{ℕ, ◌<◌, Contains, refl, subst, sym, ◌∙◌}
 use Rattle.std.proofs.lemmas.Result.{IfOk-from_err}
 use Rattle.std.specs.List.{AllZip}
-use Rattle.pf_discovery.proofs.DepthFirstLemmas.{ends_stand}
+use Rattle.pf_discovery.proofs.DepthFirstLemmas.{ends_stand, end_of_step}
 use Rattle.pf_core.proofs.SearchLemmas.{Grows-back}
 use Rattle.pf_base.proofs.Outcomes.{on_err, refused_as}
 use Rattle.pf_core.proofs.ReadLemmas.{within_found}
@@ -18,6 +18,7 @@ returns-in_err-expand g c = record {
   grows = c.expand.ensures.grows;
   graph = c.expand.ensures.graph;
   given = IfOk-from_err _ _ c.from_residual.ensures.0;
+  few = IfOk-from_err _ _ c.from_residual.ensures.0;
   visited = IfOk-from_err _ _ c.from_residual.ensures.0;
   path = IfOk-from_err _ _ c.from_residual.ensures.0;
   waiting = IfOk-from_err _ _ c.from_residual.ensures.0;
@@ -37,6 +38,7 @@ returns-in-Err g c = record {
   grows = Grows-back _ _ _ _ _ _ c.in_ok-expand.ensures.grows c.forget.ensures.shrinks (c.forget.ensures.left ∙ c.node_count-first.ensures) (λ k x s. g.met.G.NumberedGraph.inside_law c.args.graph.now k x s);
   graph = λ h x. c.forget.ensures.graph h (c.in_ok-expand.ensures.graph h x);
   given = tt;
+  few = tt;
   visited = tt;
   path = tt;
   waiting = tt;
@@ -56,6 +58,7 @@ returns g c = record {
   grows = c.expand.ensures.grows;
   graph = c.expand.ensures.graph;
   given = c.in_default.ensures.given;
+  few = c.in_default.ensures.few;
   visited = c.in_default.ensures.visited;
   path = c.in_default.ensures.path;
   ordered = c.in_ok-expand.ensures.ordered;
@@ -65,3 +68,6 @@ returns g c = record {
 
 pub forget-requires : goal.forget-requires
 forget-requires g c = subst (λ (n : ℕ). g.G.NumberedGraph.can_forget c.expand.new.self n) (sym c.node_count-first.ensures) c.expand.ensures.back
+
+pub note-requires-clause-ends : goal.note-requires-clause-ends
+note-requires-clause-ends g c = λ k h. let p = c.in_ok-expand.ensures.listed in let q = end_of_step p.0 k (subst (λ ns. Contains ns k) p.1 h) in subst (λ n. k < n) (sym c.node_count-found.ensures) (p.2 k q.0 q.1)

@@ -6,7 +6,7 @@ use Rattle.pf_discovery.proofs.depth_first.DepthFirst.waiting_branch.Given as go
 
 abbrev pub invariant-branches : goal.invariant-branches
 invariant-branches g l = record {
-  given : l.self.given.items ≡ l.fn.self.given.items;
+  given : l.self.given ≡ l.fn.self.given;
   visited : l.self.visited.items ≡ l.fn.self.visited.items;
   path : l.self.path.items ≡ l.fn.self.path.items;
   dropped : (passed : List Branch) × (l.fn.self.waiting.items ≡ l.self.waiting.items ++ passed) × AllByRecursion (λ (b : Branch). IsVisited l.fn.self.visited.items b.number) passed;

@@ -24,7 +24,7 @@ pub offset_bounds-as_slice-branch : goal.offset_bounds-as_slice-branch
 offset_bounds-as_slice-branch g c = omega (arith, bounds-as_slice-branch g c)
 
 pub put_start-requires : goal.put_start-requires
-put_start-requires g c = empty_before c.self.inside.start (g.M.Numbering.keys c.self.inside.graph.nodes) _ c.self.invariant
+put_start-requires g c = empty_before c.self.inside.start (g.M.Numbering.keys c.self.inside.graph.nodes) _ c.self.invariant.0
 
 pub returns-in_err-put_start-clause-walks : goal.returns-in_err-put_start-clause-walks
 returns-in_err-put_start-clause-walks g c = λ next start paths w.
@@ -33,7 +33,7 @@ returns-in_err-put_start-clause-walks g c = λ next start paths w.
     let i = c.self.inside in
     let s = c.in_err-put_start.ensures.stays in
     let v = subst (IsDepthWalk eq _ next start paths) (sym c.self.view_is) w in
-    let none = none_given i.start (g.M.Numbering.keys i.graph.nodes) i.walk.given.items s.0 c.self.invariant s.1 in
+    let none = none_given i.start (g.M.Numbering.keys i.graph.nodes) i.walk.given s.0 c.self.invariant.0 s.1 in
     rw (s.2, s.3) (err_goes eq laws _ next start paths _ (unbegun eq laws next start paths _ v.stands (ap length none)) v c.from_residual.result c.from_residual.ensures.0)
 
 pub returns-in_err-node-in-Some-clause-walks : goal.returns-in_err-node-in-Some-clause-walks
@@ -159,23 +159,23 @@ pub invariant_of-self : goal.invariant_of-self
 invariant_of-self g c = let s = c.in_err-put_start.ensures.stays in rw (s.2, s.3) c.self.invariant
 
 pub invariant_of-self-in-None : goal.invariant_of-self-in-None
-invariant_of-self-in-None g c = let put = c.in_ok-put_start.ensures.put in same_places _ _ _ _ _ _ c.self.invariant put.0 (omega (arith, ap length put.1)) c.in-None.ensures.given
+invariant_of-self-in-None g c = let put = c.in_ok-put_start.ensures.put in (same_places _ _ _ _ _ _ c.self.invariant.0 put.0 (omega (arith, ap length put.1)) c.in-None.ensures.given, omega (arith, c.self.invariant.1, ap length c.in-None.ensures.given))
 
 pub invariant_of-self-in_err-node-in-Some : goal.invariant_of-self-in_err-node-in-Some
-invariant_of-self-in_err-node-in-Some g c = let put = c.in_ok-put_start.ensures.put in same_places _ _ _ _ _ _ c.self.invariant put.0 (omega (arith, ap length put.1)) c.in-Some.ensures.given
+invariant_of-self-in_err-node-in-Some g c = let put = c.in_ok-put_start.ensures.put in (same_places _ _ _ _ _ _ c.self.invariant.0 put.0 (omega (arith, ap length put.1)) c.in-Some.ensures.given, omega (arith, c.self.invariant.1, ap length c.in-Some.ensures.given))
 
 pub invariant_of-self-in_err-visit-in-Some : goal.invariant_of-self-in_err-visit-in-Some
 invariant_of-self-in_err-visit-in-Some g c =
     let put = c.in_ok-put_start.ensures.put in
     let kept = c.in_err-visit-in-Some.ensures.kept in
-    same_places _ _ _ _ _ _ c.self.invariant put.0 (omega (arith, ap length put.1, kept.4)) (kept.0 ∙ c.in-Some.ensures.given)
+    (same_places _ _ _ _ _ _ c.self.invariant.0 put.0 (omega (arith, ap length put.1, kept.4)) (kept.0 ∙ c.in-Some.ensures.given), omega (arith, c.self.invariant.1, ap length kept.0, ap length c.in-Some.ensures.given))
 
 pub invariant_of-self-in-Some : goal.invariant_of-self-in-Some
 invariant_of-self-in-Some g c =
     let put = c.in_ok-put_start.ensures.put in
     let e = c.in_ok-visit-in-Some.ensures in
-    let kept = same_places _ _ _ (g.M.Numbering.keys c.put_start.new.nodes) _ _ c.self.invariant put.0 (omega (arith, ap length put.1)) c.in-Some.ensures.given in
-    more_places _ _ _ _ _ c.in-Some.branch.number kept put.0 e.grows.more (visit-requires-clause-inside g c.before.before.before) e.given
+    let kept = same_places _ _ _ (g.M.Numbering.keys c.put_start.new.nodes) _ _ c.self.invariant.0 put.0 (omega (arith, ap length put.1)) c.in-Some.ensures.given in
+    (more_places _ _ _ _ _ c.in-Some.branch.number kept put.0 e.grows.more (visit-requires-clause-inside g c.before.before.before) e.given, e.few)
 
 pub returns-in_err-node-in-Some-clause-refused : goal.returns-in_err-node-in-Some-clause-refused
 returns-in_err-node-in-Some-clause-refused g c = no_memory c.from_residual-in_err-node-in-Some.result c.from_residual-in_err-node-in-Some.ensures.1

@@ -28,8 +28,8 @@ returns-clause-goes g c =
     let r = c.requires in
     let i = c.self-2.inside in
     let given = i.walk.given in
-    let many = as_many i.start (g.M.Numbering.keys i.graph.nodes) given.items c.self-2.invariant in
-    let counts = depth_counts g.N.PartialEq.eq r.1.0 r.1.1 (IsDepthWalk g.N.PartialEq.eq g.F.SuccessorFunction.answers r.1.0 r.1.1) r.1.2 c.args.self.now c.transpose.result _ (returns-clause-steps g c r.1.0 r.1.1 r.1.2 r.1.3) (omega (arith, many, given.ok, given.small)) in
+    let many = as_many i.start (g.M.Numbering.keys i.graph.nodes) given c.self-2.invariant.0 in
+    let counts = depth_counts g.N.PartialEq.eq r.1.0 r.1.1 (IsDepthWalk g.N.PartialEq.eq g.F.SuccessorFunction.answers r.1.0 r.1.1) r.1.2 c.args.self.now c.transpose.result _ (returns-clause-steps g c r.1.0 r.1.1 r.1.2 r.1.3) (omega (arith, many, c.self-2.invariant.1)) in
     progress (λ (w : DepthWalk g.row.N.Denot g.row.F.Denot). length w.given) (λ (w : DepthWalk g.row.N.Denot g.row.F.Denot). w.refused) _ c.args.self.now c.transpose.result _ (returns-clause-again g c) counts
 
 pub returns-then-self-clause-refused : goal.returns-then-self-clause-refused
