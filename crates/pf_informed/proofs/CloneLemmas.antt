@@ -2,7 +2,7 @@
 use Rattle.std.proofs.Common.{◌≡◌, ℕ, zero, suc, List, [], ◌∷◌, length}
 use Rattle.std.specs.Prelude.{slice_get}
 use Rattle.std.specs.List.{AllZip}
-use Rattle.pf_discovery.specs.declared.depth_first.Branch.{Branch}
+use Rattle.pf_informed.specs.declared.branch.Branch.{Branch}
 use Rattle.pf_informed.specs.Internal.Chains.{before_in}
 use Rattle.pf_informed.specs.Internal.Ways.{AreWays, node_and, nodes_of, paths_of, ways_left}
 

@@ -6,8 +6,8 @@ use Rattle.std.proofs.lemmas.List.{append-nil, append_assoc, reverse-append}
 use Rattle.std.proofs.lemmas.List.Sums.{sum_by-append, sum_by-cons}
 use borrow.Author.Tests.{eqb-true}
 use Rattle.pf_base.specs.Walks.{HasNode, NoRepeats}
-use Rattle.pf_discovery.specs.declared.depth_first.Branch.{Branch}
-use Rattle.pf_discovery.specs.DepthFirst.{branches_at}
+use Rattle.pf_informed.specs.declared.branch.Branch.{Branch}
+use Rattle.pf_informed.specs.Internal.Branches.{branches_at}
 use Rattle.pf_base.proofs.ListLemmas.{bool_dec, take_get, get_take, reverse-cons, Contains-head, Contains-tail, Contains-cases, none_in, get_set, get_push}
 use Rattle.pf_core.proofs.PathLemmas.{HasNode-append_cases, NoRepeats-append}
 use Rattle.pf_informed.specs.Internal.Ways.{each_of, is_in, ways, ways_to, tries, ways_left, tries_left, nothing_waits, IsRising, AreWays, IsWhole}

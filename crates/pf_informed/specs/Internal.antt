@@ -1,4 +1,5 @@
 -- What only private functions cite.
+pub mod Branches
 pub mod Forest
 pub mod Waiting
 pub mod Estimated

@@ -1,6 +1,7 @@
 //! Searches on graphs that functions answer, led by an estimate of the cost that remains.
 #![tactic(auto)]
 
+mod branch;
 mod cheapest_labels;
 pub mod directed;
 pub mod discovered;

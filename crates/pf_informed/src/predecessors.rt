@@ -1,11 +1,11 @@
 //! The numbers before each number.
 
 ghost use Rattle.std.specs.Prelude.{◌≡◌, ◌⊎◌, ◌<◌, ◌≤◌, ◌++◌, ◌∷◌, [], ℕ, List, OnOk, OnErr, IfOk, IfErr, ⊤, length, slice_set, vec_capacity};
-ghost use Rattle.pf_discovery.specs.DepthFirst.{branches_at};
+ghost use Rattle.pf_informed.specs.Internal.Branches.{branches_at};
 ghost use Rattle.pf_informed.specs.Internal.Chains.{before_in, IsLinked};
 
+use crate::branch::Branch;
 use pf_base::PathError;
-use pf_discovery::depth_first::Branch;
 use std::alloc::{AllocError, Allocator};
 use std::marker::Model;
 

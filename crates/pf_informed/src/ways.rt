@@ -2,14 +2,14 @@
 
 ghost use Rattle.std.specs.Prelude.{◌≡◌, ◌≢◌, ◌<◌, ◌≤◌, ◌+◌, ◌-◌, ◌++◌, ◌∷◌, [], ℕ, List, Some, Ok, false, OnOk, OnErr, IfOk, IfErr, MatchBool, MatchOption, length, nat_eq, reverse, slice_get, slice_set, take, vec_capacity};
 ghost use Rattle.pf_base.specs.Walks.{HasNode};
-ghost use Rattle.pf_discovery.specs.declared.depth_first.Branch.{Branch};
-ghost use Rattle.pf_discovery.specs.DepthFirst.{branches_at};
+ghost use Rattle.pf_informed.specs.declared.branch.Branch.{Branch};
+ghost use Rattle.pf_informed.specs.Internal.Branches.{branches_at};
 ghost use Rattle.pf_informed.specs.Internal.Chains.{before_in};
 ghost use Rattle.pf_informed.specs.Internal.Ways.{AreWays, AreWaysIn, IsWhole, is_in, ways_left, ways_to_any};
 
+use crate::branch::Branch;
 use crate::predecessors::Predecessors;
 use pf_base::PathError;
-use pf_discovery::depth_first::Branch;
 use std::alloc::Allocator;
 
 /// Where a walk through all ways stands that lead from number 0 to a goal, each number on a way one

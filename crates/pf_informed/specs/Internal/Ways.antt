@@ -5,7 +5,7 @@ use Rattle.pf_base.specs.declared.error.PathError.{PathError}
 use Rattle.pf_base.specs.Answers.{SameNodes}
 use Rattle.pf_informed.specs.CheapestPaths.{PathsToCome}
 use Rattle.pf_base.specs.Walks.{HasNode, NoRepeats}
-use Rattle.pf_discovery.specs.declared.depth_first.Branch.{Branch}
+use Rattle.pf_informed.specs.declared.branch.Branch.{Branch}
 use Rattle.pf_informed.specs.Internal.Chains.{before_in}
 use Rattle.pf_informed.specs.declared.ways.Ways.{Ways}
 

@@ -1,8 +1,8 @@
 use Rattle.std.proofs.Common.{◌<◌, ◌∙◌, ◌++◌, ◌∷◌, [], List, ℕ, ap, arith, length, length-append, sym, take, take_all, true≢false}
 use Rattle.std.specs.Prelude.{slice_index, vec_capacity, vec_len}
 use Rattle.std.proofs.lemmas.List.{append-nil, append_assoc, map-append, take_more}
-use Rattle.pf_discovery.specs.declared.depth_first.Branch.{Branch}
-use Rattle.pf_discovery.specs.DepthFirst.{branches_at}
+use Rattle.pf_informed.specs.declared.branch.Branch.{Branch}
+use Rattle.pf_informed.specs.Internal.Branches.{branches_at}
 use Rattle.pf_informed.proofs.Outcomes.{pushed_on}
 use Rattle.pf_informed.proofs.ways.put_branches.Goals as goal
 

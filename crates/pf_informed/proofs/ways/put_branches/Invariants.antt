@@ -1,6 +1,6 @@
 use Rattle.std.proofs.Common.{◌≡◌, ◌≤◌, ◌+◌, ◌++◌, length, take}
 use Rattle.std.specs.Prelude.{vec_capacity}
-use Rattle.pf_discovery.specs.DepthFirst.{branches_at}
+use Rattle.pf_informed.specs.Internal.Branches.{branches_at}
 use Rattle.pf_informed.proofs.ways.put_branches.Given as goal
 
 abbrev pub invariant-numbers : goal.invariant-numbers

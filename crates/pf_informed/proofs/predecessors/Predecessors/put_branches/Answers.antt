@@ -1,7 +1,7 @@
 use Rattle.std.proofs.Common.{rules, ◌≡◌, ◌<◌, ◌-◌, ◌++◌, ◌∷◌, [], ◌∙◌, ap, sym, arith, length, slice_get, Some, suc, List, ℕ}
 use Rattle.std.proofs.lemmas.List.{append-nil, append_assoc}
-use Rattle.pf_discovery.specs.declared.depth_first.Branch.{Branch}
-use Rattle.pf_discovery.specs.DepthFirst.{branches_at}
+use Rattle.pf_informed.specs.declared.branch.Branch.{Branch}
+use Rattle.pf_informed.specs.Internal.Branches.{branches_at}
 use Rattle.pf_base.proofs.ListLemmas.{at_place}
 use Rattle.pf_informed.specs.Internal.Chains.{chain}
 use Rattle.pf_informed.proofs.ChainLemmas.{chain_step, list_at, lists_long}

@@ -1,7 +1,7 @@
 use Rattle.std.proofs.Common.{◌≡◌, ◌≤◌, ◌++◌, List, length}
 use Rattle.std.specs.Prelude.{vec_capacity}
-use Rattle.pf_discovery.specs.declared.depth_first.Branch.{Branch}
-use Rattle.pf_discovery.specs.DepthFirst.{branches_at}
+use Rattle.pf_informed.specs.declared.branch.Branch.{Branch}
+use Rattle.pf_informed.specs.Internal.Branches.{branches_at}
 use Rattle.pf_informed.specs.Internal.Chains.{before_in, chain}
 use Rattle.pf_informed.proofs.predecessors.Predecessors.put_branches.Given as goal
 

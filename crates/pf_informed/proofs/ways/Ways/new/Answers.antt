@@ -1,5 +1,5 @@
 use Rattle.std.proofs.Common.{rules, ◌≡◌, length, refl}
-use Rattle.pf_discovery.specs.DepthFirst.{branches_at}
+use Rattle.pf_informed.specs.Internal.Branches.{branches_at}
 use Rattle.pf_informed.specs.Internal.Chains.{before_in}
 use Rattle.pf_base.proofs.Outcomes.{if_refused, refused_as}
 use Rattle.pf_informed.proofs.WaysLemmas.{start_ways, start_left}
