@@ -1,4 +1,3 @@
-use Rattle.std.proofs.Common.{ap}
 use Rattle.pf_search.proofs.LawLemmas.{agree, one_length, loops_of_one_length}
 use Rattle.pf_search.proofs.LeastLemmas.{same_cost}
 use Rattle.pf_search.proofs.laws.answers_agree.Goals as goal
