@@ -20,8 +20,7 @@ fn capped_sum<C: Cost>(left: C, right: C) -> C
 
 /// A cost so many times, or the greatest cost of the type where that does not fit.
 ///
-/// It is found by doubling, in as many rounds as the number has bits. Something is added for each bit,
-/// since a branch by the bits of a number is seldom foreseen by the processor.
+/// It is found by doubling, in as many rounds as the number has bits.
 pub(crate) fn capped_product<C: Cost>(cost: C, count: usize) -> C
     requires from_zero { pos 0 ≤ℤ C.value cost }
     ensures { C.value result ≡ int_min (pos count *ℤ C.value cost) (C.value C.greatest) }
@@ -30,8 +29,9 @@ pub(crate) fn capped_product<C: Cost>(cost: C, count: usize) -> C
     let mut double = cost;
     let mut left = count;
     'bits: while left > 0 {
-        let part = if left % 2 == 1 { double } else { C::zero() };
-        product = capped_sum(product, part);
+        if left % 2 == 1 {
+            product = capped_sum(product, double);
+        }
         double = capped_sum(double, double);
         left /= 2;
     }
