@@ -100,6 +100,7 @@ fn place_of(nodes: &[usize], node: usize) -> Option<usize>
 
 impl<A: Allocator> TableNodes<A> {
     /// The number of a node, if it was found.
+    #[inline]
     fn known(&self, node: usize) -> Option<usize>
         ensures { MatchOption result ((k : ℕ) → ¬ (slice_get self.now k ≡ Some node)) (λ k. slice_get self.now k ≡ Some node) }
     {
@@ -111,6 +112,7 @@ impl<A: Allocator> TableNodes<A> {
     }
 
     /// Gives the next number to a node that has none. Where memory is refused, all stays.
+    #[inline(never)]
     fn add(&mut self, node: usize) -> Result<usize, PathError>
         requires { (k : ℕ) → ¬ (slice_get self.old k ≡ Some node) }
         ensures added { OnOk result (self.new ≡ self.old ++ node ∷ []) }
@@ -180,6 +182,8 @@ impl<A: Allocator> Numbering for TableNodes<A> {
         self.known(*node)
     }
 
+    // A search asks it at each edge.
+    #[inline(always)]
     fn number_of(&mut self, node: usize) -> Result<usize, AllocFailed<usize>> {
         match self.known(node) {
             Some(number) => Ok(number),
