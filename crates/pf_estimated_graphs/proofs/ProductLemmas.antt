@@ -15,6 +15,10 @@ capped_below z top = omega (arith, ints, clamps)
 capped_same : (z top : ℤ) → z ≤ℤ top → int_min z top ≡ z
 capped_same z top h = omega (arith, ints, clamps)
 
+-- a sum to which nothing is added
+pub nothing_more : (sum part top : ℤ) → part ≡ pos 0 → sum ≤ℤ top → int_min (sum +ℤ part) top ≡ sum
+nothing_more sum part top none fits = omega (arith, ints, clamps)
+
 -- ---- natural numbers
 
 module _ (top : ℕ) where

@@ -25,10 +25,12 @@ pub struct BoardEstimates<'b, 'a, C: Cost> {
     goal: usize,
     target: Option<(usize, usize)>,
     least: C,
+    // (the cost 0)
+    nothing: C,
 }
 
 impl<'b, 'a, C: Cost> Model for BoardEstimates<'b, 'a, C> {
-    ghost use Rattle.std.specs.Prelude.{◌<◌, ◌^◌, length};
+    ghost use Rattle.std.specs.Prelude.{◌≡◌, ◌<◌, ◌^◌, pos, length};
     ghost use Rattle.std.specs.Option.{SomeIff};
     ghost use Rattle.pf_boards.specs.Boards.{position_at};
     ghost use Rattle.pf_estimated_graphs.specs.EstimatesOnBoards.{EstimatedBoard, IsEstimatedBoard};
@@ -37,7 +39,7 @@ impl<'b, 'a, C: Cost> Model for BoardEstimates<'b, 'a, C> {
 
     ghost view = { λ s. record { board = s.board.now; steps = s.steps; goal = s.goal; least = s.least } };
 
-    ghost invariant = { λ s. IsEstimatedBoard C.value (record { board = s.board.now; steps = s.steps; goal = s.goal; least = s.least }) × SomeIff s.target (s.goal < length s.board.now.cells) (position_at s.board.now s.goal) × (length s.board.now.cells < 2 ^ 64) };
+    ghost invariant = { λ s. IsEstimatedBoard C.value (record { board = s.board.now; steps = s.steps; goal = s.goal; least = s.least }) × SomeIff s.target (s.goal < length s.board.now.cells) (position_at s.board.now s.goal) × (length s.board.now.cells < 2 ^ 64) × (C.value s.nothing ≡ pos 0) };
 }
 
 /// The least cost of an open cell, or 0 where none is open.
@@ -88,6 +90,7 @@ impl<'b, 'a, C: Cost> BoardEstimates<'b, 'a, C> {
             goal,
             target: board.position_of(goal),
             least: least_cost(board.cells()),
+            nothing: C::zero(),
         }
     }
 }
@@ -127,7 +130,11 @@ impl<'b, 'a, C: Cost> EstimatedGraph<C> for BoardEstimates<'b, 'a, C> {
 
     fn estimate(&self, node: usize) -> C {
         match (self.board.position_of(node), self.target) {
-            (Some(from), Some(to)) => capped_product(self.least, count_steps(self.steps, from, to)),
+            (Some(from), Some(to)) => capped_product(
+                self.least,
+                count_steps(self.steps, from, to),
+                self.nothing,
+            ),
             _ => C::zero(),
         }
     }

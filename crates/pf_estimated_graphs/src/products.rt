@@ -20,18 +20,20 @@ fn capped_sum<C: Cost>(left: C, right: C) -> C
 
 /// A cost so many times, or the greatest cost of the type where that does not fit.
 ///
-/// It is found by doubling, in as many rounds as the number has bits.
-pub(crate) fn capped_product<C: Cost>(cost: C, count: usize) -> C
+/// It is found by doubling, in as many rounds as the number has bits. `nothing` is added for a bit that is
+/// 0: the compiler makes a branch by the bits, which the processor seldom foresees, where it knows that a
+/// sum stays the same.
+pub(crate) fn capped_product<C: Cost>(cost: C, count: usize, nothing: C) -> C
     requires from_zero { pos 0 ≤ℤ C.value cost }
+    requires nothing { C.value nothing ≡ pos 0 }
     ensures { C.value result ≡ int_min (pos count *ℤ C.value cost) (C.value C.greatest) }
 {
     let mut product = C::zero();
     let mut double = cost;
     let mut left = count;
     'bits: while left > 0 {
-        if left % 2 == 1 {
-            product = capped_sum(product, double);
-        }
+        let part = if left % 2 == 1 { double } else { nothing };
+        product = capped_sum(product, part);
         double = capped_sum(double, double);
         left /= 2;
     }

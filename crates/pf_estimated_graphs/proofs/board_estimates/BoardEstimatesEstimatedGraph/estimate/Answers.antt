@@ -16,4 +16,4 @@ count_steps-requires g c =
     (subst (λ (p : ℕ × ℕ). (p.0 < board.rows) × (p.1 < board.columns)) (sym to.1) inside)
 
 pub capped_product-requires : goal.capped_product-requires
-capped_product-requires g c = record { from_zero = least_from_zero g.C.Number.value c.self.inside.board.now.cells c.self.inside.least c.self.invariant.0.board.from_zero c.self.invariant.0.least }
+capped_product-requires g c = record { from_zero = least_from_zero g.C.Number.value c.self.inside.board.now.cells c.self.inside.least c.self.invariant.0.board.from_zero c.self.invariant.0.least; nothing = c.self.invariant.3 }
