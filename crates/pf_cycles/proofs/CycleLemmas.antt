@@ -159,3 +159,12 @@ module _ {N : Type 0} {eq : N → N → Bool} (laws : IsEquivalence eq) {next : 
         | inl l ↦ absurd (least (n % length) l below rest)
         | inr l ↦ (n / length, omega (arith, split))
       ]
+
+  -- the first place that comes again after a multiple of a cycle's length is its index
+  pub cycle_by_multiple : (length some index rounds : ℕ) → IsCycle eq next start length some → 0 < rounds * length → Repeats eq next start index (rounds * length)
+      → ((k : ℕ) → k < index → ¬ (Repeats eq next start k (rounds * length))) → IsCycle eq next start length index
+  cycle_by_multiple length some index rounds c positive again before =
+      let low : some ≤ index = c.least_index index (rounds * length) positive again in
+      let high : index ≤ some = elim (cases_lt some index) as (λ _. index ≤ some) [ inl l ↦ absurd (before some l (repeats_rounds some length rounds c.repeats)) | inr h ↦ h ] in
+      let e : some ≡ index = omega (arith, low, high) in
+      subst (λ n. IsCycle eq next start length n) e c

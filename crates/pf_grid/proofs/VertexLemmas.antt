@@ -1,17 +1,17 @@
 -- The vertices of a grid one after another, and those that are listed.
-use Rattle.std.proofs.Common.{◌≡◌, ℕ, zero, suc, ◌+◌, ◌-◌, ◌*◌, ◌/◌, ◌%◌, ◌^◌, ◌<◌, ◌≤◌, ◌∙◌, sym, refl, ap, arith, inl, inr, Bool, true, false, true≢false, ◌||◌, nat_eq, List, [], ◌∷◌, ◌++◌, length, get_or, map, take, max}
+use Rattle.std.proofs.Common.{◌≡◌, ℕ, zero, suc, ◌+◌, ◌-◌, ◌*◌, ◌/◌, ◌%◌, ◌^◌, ◌<◌, ◌≤◌, ◌∙◌, sym, refl, ap, arith, inl, inr, Bool, true, false, true≢false, ◌||◌, List, [], ◌∷◌, ◌++◌, length, get_or, map, take, max}
 use Rattle.std.specs.Prelude.{if◌then◌else◌, ◌⊎◌}
 use Rattle.std.specs.List.{range_with_len, filter, list_any}
 use Rattle.std.proofs.Math.Nat.{mul_comm, suc-mul, mul-le-mul_left}
-use Rattle.std.proofs.lemmas.Bool.{cases_lt, cases_Bool, cases_eq, eqb-true}
+use Rattle.std.proofs.lemmas.Bool.{cases_lt, cases_Bool, cases_eq}
 use Rattle.std.proofs.lemmas.Nat.{mul-add-lt, div-mul-add, mod-mul-add}
 use Rattle.std.proofs.lemmas.List.{take_more}
 use Rattle.std.proofs.lemmas.List.Sums.{length-filter, count_by-le-length}
 use Rattle.std.proofs.lemmas.List.FromFn.{length-map-range_with_len}
 use Rattle.pf_grid.specs.GridPositions.{Positions, IsGrid, has, is_position}
 use Rattle.pf_grid.specs.Vertices.{vertices_from, vertices_of, position_of, listed, extent}
-use Rattle.pf_grid.proofs.CellLemmas.{has_is_inside, and_first, and_second}
-use Rattle.pf_grid.proofs.WordLemmas.{position_same}
+use Rattle.pf_grid.proofs.CellLemmas.{has_is_inside}
+use Rattle.pf_grid.proofs.WordLemmas.{position_same, same_coordinates}
 
 or_cases : (a b : Bool) → (a || b) ≡ true → (a ≡ true) ⊎ (b ≡ true)
 or_cases true b h = inl refl
@@ -111,9 +111,6 @@ module _ (g : Positions) where
   vertices_fit ok = omega (arith, ap length (left_at 0), left_length 0 (total - 0), ok.fits)
 
 -- ---- vertices that are listed
-
-pub same_coordinates : (p : ℕ × ℕ) (x y : ℕ) → is_position p x y ≡ true → (x ≡ p.0) × (y ≡ p.1)
-same_coordinates p x y h = (eqb-true x p.0 (and_first _ _ h), eqb-true y p.1 (and_second (nat_eq x p.0) _ h))
 
 module _ (g : Positions) where
   -- what is listed is a vertex

@@ -56,7 +56,7 @@ has_contained ps p h = (h.0, slice_get-get_or ps h.0 p h.1 ∙ ap Some h.2)
 pub contained_has : (ps : List (ℕ × ℕ)) (p : ℕ × ℕ) → Has ps p → Contains ps p
 contained_has ps p h = (h.0, slice_get_within ps h.0 p h.1, get_or_from_slice_get ps h.0 p p h.1)
 
-has_head : (ps : List (ℕ × ℕ)) (q p : ℕ × ℕ) → Has (q ∷ ps) p → (q ≡ p) ⊎ Has ps p
+pub has_head : (ps : List (ℕ × ℕ)) (q p : ℕ × ℕ) → Has (q ∷ ps) p → (q ≡ p) ⊎ Has ps p
 has_head ps q p (zero, e) = inl (let f : Some q ≡ Some p = e in cc)
 has_head ps q p (suc k, e) = inr (k, e)
 
@@ -216,13 +216,22 @@ module _ (near : ℕ × ℕ → List (ℕ × ℕ)) (passes : ℕ × ℕ → Bool
             cc
 
   -- once nothing is left to look around, exactly the positions in reach were reached
-  pub flood_ended : (free : ℕ × ℕ → Bool) (reached : List (ℕ × ℕ)) (n : ℕ) (s : BTreeSet (ℕ × ℕ)) → IsFlooding Beside passes start free reached n → length reached ≤ n → IsFromIterResult position_cmp reached s → HasReached Beside start s
+  pub flood_ended : (free : ℕ × ℕ → Bool) (reached : List (ℕ × ℕ)) (n : ℕ) (s : BTreeSet (ℕ × ℕ)) → IsFlooding Beside passes start free reached n → length reached ≤ n → ((p : ℕ × ℕ) → Contains s.keys p ↔ Has reached p) → HasReached Beside start s
   flood_ended free reached n s f l made p =
-      let m = made_of reached s made p in (
-        λ h. f.sound p (has_contained reached p (m.0 h)),
-        λ h. m.1 (contained_has reached p (successors_keep same_position Beside (Has reached) (λ a b e h. subst (Has reached) (pair_exact a b e) h)
-            (λ a h. f.closed h.0 a h.1 (omega (arith, l, slice_get_within reached h.0 a h.1))) (start ∷ []) ((0, f.begins), tt) p h)),
+      let m = made p in (
+        λ h. f.sound p (m.0 h),
+        λ h. m.1 (successors_keep same_position Beside (Has reached) (λ a b e h. subst (Has reached) (pair_exact a b e) h)
+            (λ a h. f.closed h.0 a h.1 (omega (arith, l, slice_get_within reached h.0 a h.1))) (start ∷ []) ((0, f.begins), tt) p h),
       )
+
+-- a start without steps is reached alone
+pub flood_alone : (next : ℕ × ℕ → List (ℕ × ℕ)) (start : ℕ × ℕ) (s : BTreeSet (ℕ × ℕ)) → next start ≡ [] → s.keys ≡ start ∷ [] → HasReached next start s
+flood_alone next start s none one p =
+    let alone : (q : ℕ × ℕ) → Has (start ∷ []) q → start ≡ q = λ q h. elim (has_head [] start q h) as (λ _. start ≡ q) [ inl e ↦ e | inr m ↦ absurd (none_in m.0 q m.1) ] in (
+      λ h. subst (InFlood next start) (alone p (has_contained (start ∷ []) p (subst (λ ks. Contains ks p) one h))) (start_in next start),
+      λ h. subst (λ ks. Contains ks p) (sym one) (contained_has (start ∷ []) p (successors_keep same_position next (Has (start ∷ [])) (λ a b e h. subst (Has (start ∷ [])) (pair_exact a b e) h)
+          (λ a h. subst (AllByRecursion (Has (start ∷ []))) (sym (ap next (sym (alone a h)) ∙ none)) tt) (start ∷ []) ((0, refl), tt) p h)),
+    )
 
 -- ---- where neighbours lie
 
@@ -270,6 +279,10 @@ module _ (rows columns : ℕ) (diagonals : Bool) where
 
 -- ---- answers at positions
 
+-- a position inside a table of these sizes
+abbrev pub IsIn : ℕ → ℕ → ℕ × ℕ → Type 0
+IsIn rows columns p = (p.0 < rows) × (p.1 < columns)
+
 pub answer_outside : (rows columns : ℕ) (answers : List Bool) (p : ℕ × ℕ) → ¬ ((p.0 < rows) × (p.1 < columns)) → false ≡ answer_at rows columns answers p
 answer_outside rows columns answers p n = by (nat_lt p.0 rows) (nat_lt p.1 columns) refl refl
   where
@@ -282,6 +295,24 @@ pub answer_inside : (rows columns : ℕ) (answers : List Bool) (p : ℕ × ℕ) 
 answer_inside rows columns answers p h k =
     let v = get_or answers (p.0 * columns + p.1) false in
     sym (ap (λ (a : Bool). a && (nat_lt p.1 columns && v)) (lt-ltb p.0 rows h) ∙ ap (λ (b : Bool). b && v) (lt-ltb p.1 columns k))
+
+-- where the answer is yes is inside
+pub answer_true : (rows columns : ℕ) (answers : List Bool) (p : ℕ × ℕ) → answer_at rows columns answers p ≡ true → IsIn rows columns p
+answer_true rows columns answers p e = by (nat_lt p.0 rows) (nat_lt p.1 columns) refl refl e
+  where
+    by : (a b : Bool) → nat_lt p.0 rows ≡ a → nat_lt p.1 columns ≡ b → (a && (b && get_or answers (p.0 * columns + p.1) false)) ≡ true → IsIn rows columns p
+    by true true s t f = (ltb-true p.0 rows s, ltb-true p.1 columns t)
+    by true false s t f = absurd (true≢false (sym f))
+    by false b s t f = absurd (true≢false (sym f))
+
+-- around a position outside there are no positions
+pub none_outside : (rows columns : ℕ) (diagonals : Bool) (p : ℕ × ℕ) → ¬ (IsIn rows columns p) → neighbours_of rows columns p.0 p.1 diagonals ≡ []
+none_outside rows columns diagonals p n = by (nat_lt p.0 rows) (nat_lt p.1 columns) refl refl
+  where
+    by : (a b : Bool) → nat_lt p.0 rows ≡ a → nat_lt p.1 columns ≡ b → (if a && b then filter_map (neighbour_at rows columns p.0 p.1 diagonals) around else []) ≡ []
+    by true true s t = absurd (n (ltb-true p.0 rows s, ltb-true p.1 columns t))
+    by true false s t = refl
+    by false b s t = refl
 
 -- calls at the same positions
 pub given_on : {F X Y : Type 0} {step : F → X → Y → F → Type 0} {f : F} {xs zs : List X} {ys : List Y} → xs ≡ zs → GivesInTurn step f xs ys → GivesInTurn step f zs ys
@@ -344,10 +375,6 @@ shut_count (false ∷ answers) (suc n) h = shut_count answers n h
 pub all_has : (P : ℕ × ℕ → Type 0) (ps : List (ℕ × ℕ)) → AllByRecursion P ps → (p : ℕ × ℕ) → Has ps p → P p
 all_has P [] a p h = absurd (none_in h.0 p h.1)
 all_has P (q ∷ ps) a p h = elim (has_head ps q p h) as (λ _. P p) [ inl e ↦ subst P e a.0 | inr m ↦ all_has P ps a.1 p m ]
-
--- a position inside a table of these sizes
-abbrev pub IsIn : ℕ → ℕ → ℕ × ℕ → Type 0
-IsIn rows columns p = (p.0 < rows) × (p.1 < columns)
 
 pub near_in : (rows columns : ℕ) (diagonals : Bool) (at q : ℕ × ℕ) → Has (neighbours_of rows columns at.0 at.1 diagonals) q → IsIn rows columns q
 near_in rows columns diagonals at q h = all_has (IsIn rows columns) (neighbours_of rows columns at.0 at.1 diagonals) (neighbours_all rows columns diagonals (IsIn rows columns) (λ p r c. (r, c)) at.0 at.1) q h
@@ -439,9 +466,11 @@ module _ (first : Table Bool) (near : ℕ × ℕ → List (ℕ × ℕ)) (start :
     pub flooding : IsFlooding (λ p. filter passes (near p)) passes start (answer_at first.rows first.columns now.values) reached n
     pub before : n ≤ length reached
     pub counted : free_count now.values + length reached ≡ free_count first.values + 1
+    pub inside : (p : ℕ × ℕ) → Has reached p → IsIn first.rows first.columns p
 
-  pub flooding_init : (reached : List (ℕ × ℕ)) → reached ≡ start ∷ [] → Flooding first reached 0
-  flooding_init reached e = record {
+  pub flooding_init : (reached : List (ℕ × ℕ)) → IsIn first.rows first.columns start → reached ≡ start ∷ [] → Flooding first reached 0
+  flooding_init reached in_first e = record {
+    inside = λ p h. elim (has_head [] start p (subst (λ ps. Has ps p) e h)) as (λ _. IsIn first.rows first.columns p) [ inl q ↦ subst (IsIn first.rows first.columns) q in_first | inr m ↦ absurd (none_in m.0 p m.1) ];
     rows = refl;
     columns = refl;
     flooding = subst (λ ps. IsFlooding (λ p. filter passes (near p)) passes start passes ps 0) (sym e) (flooding_begun near passes start);
@@ -465,8 +494,12 @@ module _ (first : Table Bool) (near : ℕ × ℕ → List (ℕ × ℕ)) (start :
         flooding = flooding_on near passes start (answer_at first.rows first.columns now.values) (answer_at first.rows first.columns now'.values) reached reached' n at f.flooding there s;
         before = omega (arith, more);
         counted = counted ∙ f.counted;
+        inside = λ p h. elim (s.new p h) as (λ _. IsIn first.rows first.columns p) [
+          | inl m ↦ f.inside p m
+          | inr m ↦ answer_true first.rows first.columns now.values p m.1
+        ];
       }
 
-  pub flooding_end : (now : Table Bool) (reached : List (ℕ × ℕ)) (n : ℕ) (s : BTreeSet (ℕ × ℕ)) → Flooding now reached n → length reached ≤ n → IsFromIterResult position_cmp reached s
+  pub flooding_end : (now : Table Bool) (reached : List (ℕ × ℕ)) (n : ℕ) (s : BTreeSet (ℕ × ℕ)) → Flooding now reached n → length reached ≤ n → ((p : ℕ × ℕ) → Contains s.keys p ↔ Has reached p)
       → HasReached (λ p. filter passes (near p)) start s
   flooding_end now reached n s f l made = flood_ended near passes start (answer_at first.rows first.columns now.values) reached n s f.flooding l made

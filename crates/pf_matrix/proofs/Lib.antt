@@ -5,6 +5,7 @@ pub mod TableLemmas
 pub mod ArrangeLemmas
 pub mod CallLemmas
 pub mod FloodLemmas
+pub mod MarkLemmas
 pub mod TakeLemmas
 pub mod TableLaws
 pub mod RowLemmas

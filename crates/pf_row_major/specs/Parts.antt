@@ -1,5 +1,5 @@
 -- Parts of values in row-major order.
-use Rattle.std.specs.Prelude.{ℕ, ◌+◌, ◌*◌, ◌<◌, ◌≤◌, List, slice_index_or}
+use Rattle.std.specs.Prelude.{ℕ, ◌+◌, ◌-◌, ◌*◌, ◌<◌, ◌≤◌, Bool, if◌then◌else◌, List, slice_index_or}
 
 -- in rows of size.1 values, ys has those of xs in size.0 rows and size.1 columns from a position on, or what stands to them as `like` says
 abbrev pub IsPartOf : {C : Type 0} → (C → C → Type 0) → ℕ → ℕ × ℕ → ℕ × ℕ → List C → List C → Type 0
@@ -11,3 +11,7 @@ pub record IsCovered (at : ℕ × ℕ) (height width r c : ℕ) : Type 0 where
   pub above : r < at.0 + height
   pub right : at.1 ≤ c
   pub left : c < at.1 + width
+
+-- the row r, counted from the last one if `upwards`
+abbrev pub row_from : Bool → ℕ → ℕ → ℕ
+row_from upwards rows r = if upwards then rows - 1 - r else r

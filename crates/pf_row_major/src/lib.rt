@@ -3,8 +3,8 @@
 //! The layer below `pf_matrix`. No other crate exports it.
 #![tactic(auto)]
 
-ghost use Rattle.std.specs.Prelude.{◌≡◌, ℕ, ◌+◌, ◌-◌, ◌*◌, ◌^◌, ◌<◌, ◌≤◌, ◌≢◌, length, slice_index_or, vec_len, IfOk, IsOk};
-ghost use Rattle.pf_row_major.specs.Parts.{IsCovered, IsPartOf};
+ghost use Rattle.std.specs.Prelude.{◌≡◌, ◌⊎◌, ℕ, ◌+◌, ◌-◌, ◌*◌, ◌^◌, ◌<◌, ◌≤◌, ◌≢◌, length, slice_index_or, vec_len, IfOk, IsOk};
+ghost use Rattle.pf_row_major.specs.Parts.{IsCovered, IsPartOf, row_from};
 
 use std::alloc::{AllocError, Allocator};
 
@@ -45,9 +45,21 @@ pub fn transpose_square<C>(values: &mut [C], size: usize)
     requires { length values.old ≡ size * size }
     ensures values { (r c : ℕ) (d : C) → r < size → c < size → slice_index_or values.new (r * size + c) d ≡ slice_index_or values.old (c * size + r) d }
 {
-    for row in 0..size {
-        for column in row + 1..size {
-            values.swap(row * size + column, column * size + row);
+    exchange_band(values, size, 0, size);
+}
+
+/// Exchanges the rows and the columns from `from` up to `to` of values of which there are rows up to
+/// `to`: row by row, what is above the diagonal and in these columns with what is below it.
+fn exchange_band<C>(values: &mut [C], columns: usize, from: usize, to: usize)
+    requires order { from ≤ to }
+    requires inside { to ≤ columns }
+    requires size { length values.old ≡ to * columns }
+    ensures exchanged { (r c : ℕ) (d : C) → r < to → c < to → (from ≤ r) ⊎ (from ≤ c) → slice_index_or values.new (r * columns + c) d ≡ slice_index_or values.old (c * columns + r) d }
+    ensures others { (r c : ℕ) (d : C) → r < to → c < columns → ((r < from) × (c < from)) ⊎ (to ≤ c) → slice_index_or values.new (r * columns + c) d ≡ slice_index_or values.old (r * columns + c) d }
+{
+    for row in 0..to {
+        for column in from.max(row + 1)..to {
+            values.swap(row * columns + column, column * columns + row);
         }
     }
 }
@@ -137,6 +149,45 @@ pub fn cloned_upwards<C: Clone + Drop, A: Allocator>(
         values.extend_with_clones(run(all, begin, columns))?;
     }
     Ok(values)
+}
+
+/// How many rows are cloned before they are exchanged with the columns above them, while a cache still
+/// has the rows.
+const BAND: usize = 16;
+
+/// Clones of the values of a square by columns, the first column first: each from the top, or from the
+/// bottom if `upwards`.
+pub fn cloned_square<C: Clone + Drop, A: Allocator>(
+    alloc: A,
+    all: &[C],
+    size: usize,
+    upwards: bool,
+) -> Result<Vec<C, A>, AllocError>
+    requires { length all.now ≡ size * size }
+    ensures len { IfOk result (λ v. vec_len v ≡ size * size) }
+    ensures values { IfOk result (λ v. (r c : ℕ) (d : C) → r < size → c < size → C.is_clone (slice_index_or all.now (row_from upwards size c * size + r) d) (slice_index_or v.items (r * size + c) d)) }
+{
+    let mut values = Vec::with_capacity(alloc, all.len())?;
+    let mut from = 0;
+    while from < size {
+        let to = from + BAND.min(size - from);
+        for row in from..to {
+            let begin = row_from(upwards, size, row) * size;
+            values.extend_with_clones(run(all, begin, size))?;
+        }
+        exchange_band(values.as_mut_slice(), size, from, to);
+        from = to;
+    }
+    Ok(values)
+}
+
+/// The row, counted from the last one if `upwards`.
+fn row_from(upwards: bool, rows: usize, row: usize) -> usize
+    requires { row < rows }
+    ensures from { result ≡ row_from upwards rows row }
+    ensures inside { result < rows }
+{
+    if upwards { rows - 1 - row } else { row }
 }
 
 /// Clones of the values by columns, the first column first.

@@ -2,7 +2,7 @@
 
 ghost use Rattle.std.specs.Prelude.{◌≡◌, ◌+◌, ℕ, true, false, [], ◌∷◌, Some, IfOk, IfErr, OnOk, length, slice_get};
 ghost use Rattle.pf_grid.specs.VertexFloods.{IsFlood, IsFloodBy};
-ghost use Rattle.pf_grid.specs.GridPositions.{has};
+ghost use Rattle.pf_grid.specs.GridPositions.{IsInside, has};
 ghost use Rattle.pf_grid.specs.declared.error.GridError.TheVariants.{OutOfMemory};
 ghost use Rattle.pf_matrix.specs.Calls.{CallableInTurn};
 ghost use Rattle.pf_grid.specs.Steps.{neighbours_of};
@@ -13,7 +13,7 @@ ghost use Rattle.pf_matrix.specs.Positions.{positions};
 use crate::error::GridError;
 use crate::grid::Grid;
 use pf_matrix::Matrix;
-use pf_matrix::flooding::{close, set_of};
+use pf_matrix::flooding::{close, set_of, set_of_one};
 use std::alloc::Allocator;
 use std::collections::BTreeSet;
 
@@ -42,9 +42,7 @@ impl<A: Allocator + Copy> Grid<A> {
     {
         let alloc = *self.words.allocator();
         if !self.has_vertex(start) {
-            let mut alone = BTreeSet::new(alloc);
-            alone.insert(start)?;
-            return Ok(alone);
+            return Ok(set_of_one(alloc, start)?);
         }
         let Ok(free) = Matrix::from_fn(alloc, self.width, self.height, predicate) else {
             return Err(GridError::OutOfMemory);
@@ -81,6 +79,7 @@ impl<A: Allocator + Copy> Grid<A> {
         mut free: Matrix<bool, A>,
     ) -> Result<BTreeSet<(usize, usize), A>, GridError>
         requires sizes { (free.rows ≡ self.now.width) × (free.columns ≡ self.now.height) }
+        requires inside { IsInside self.now start }
         ensures reached { IfOk result (IsFlood self.now (answer_at free.rows free.columns free.values) start) }
         ensures refused { IfErr result (λ e. e ≡ OutOfMemory) }
     {
@@ -91,7 +90,7 @@ impl<A: Allocator + Copy> Grid<A> {
             self.reach_around(&mut free, reached[next], &mut reached)?;
             next += 1;
         }
-        Ok(set_of(alloc, &reached)?)
+        Ok(set_of(free, reached)?)
     }
 
     /// Puts the free neighbours of a vertex at the end of the list, and closes them. Where memory is

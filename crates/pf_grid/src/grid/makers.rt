@@ -25,6 +25,8 @@ impl<A: Allocator> Grid<A> {
             width,
             height,
             diagonal: false,
+            inverted: false,
+            len: 0,
             words,
         })
     }

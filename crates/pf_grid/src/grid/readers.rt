@@ -48,6 +48,7 @@ impl<A: Allocator> Grid<A> {
         let (x, y) = position;
         self.is_inside(position)
             && words::bit_of(self.words.as_slice(), words::row_words(self.width), x, y)
+                != self.inverted
     }
 
     /// The number of vertices.
@@ -55,7 +56,7 @@ impl<A: Allocator> Grid<A> {
         ensures count { result ≡ vertex_count self.now }
         ensures grid { IsGrid self.now }
     {
-        words::count(self.words.as_slice(), self.width, self.height)
+        self.len
     }
 
     /// Whether there are no vertices.

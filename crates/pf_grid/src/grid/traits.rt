@@ -21,6 +21,8 @@ impl<A: Allocator + Copy> Clone for Grid<A> {
             width: self.width,
             height: self.height,
             diagonal: self.diagonal,
+            inverted: self.inverted,
+            len: self.len,
             words,
         })
     }
@@ -67,7 +69,8 @@ impl<A: Allocator> Grid<A> {
     {
         let per_row = words::row_words(self.width);
         if place < per_row && y < self.height {
-            self.words[y * per_row + place]
+            let bits = words::turned_if(self.inverted, self.words[y * per_row + place]);
+            words::trimmed(bits, place, self.width)
         } else {
             0
         }

@@ -95,7 +95,13 @@ impl<A: Allocator> Grid<A> {
             (λ i. (x ≤ i) × (i + 1 < 2 ^ 64) × (has self.now i y ≡ true) × ((j : ℕ) → x ≤ j → j < i → has self.now j y ≡ false)) }
     {
         let per_row = words::row_words(self.width());
-        words::first_one(self.words.as_slice(), per_row, x, y)
+        let found = words::first_held(self.words.as_slice(), per_row, self.inverted, x, y)?;
+        // Behind the last column there are bits for which there is no position.
+        if found < self.width {
+            Some(found)
+        } else {
+            None
+        }
     }
 }
 

@@ -1,7 +1,7 @@
 //! What changes the vertices of a grid.
 
-ghost use Rattle.std.specs.Prelude.{◌≡◌, ◌↔◌, ◌&&◌, ◌*◌, ◌<◌, not, true, false, IsTrue, IsOk, IfOk};
-ghost use Rattle.pf_grid.specs.GridPositions.{in_mode, is_inside, has, filled, cleared, inverted, with_position, without_position, vertex_count};
+ghost use Rattle.std.specs.Prelude.{◌≡◌, ◌↔◌, ◌&&◌, ◌*◌, ◌<◌, not, if◌then◌else◌, true, false, IsTrue, IsOk, IfOk};
+ghost use Rattle.pf_grid.specs.GridPositions.{IsInside, in_mode, is_inside, is_position, has, filled, cleared, inverted, with_position, with_vertices, without_position, vertex_count};
 
 use crate::error::GridError;
 use crate::grid::Grid;
@@ -30,10 +30,11 @@ impl<A: Allocator> Grid<A> {
         ensures missing { IfOk result (λ added. added ≡ (is_inside self.old position.0 position.1 && not (has self.old position.0 position.1))) }
         ensures added { self.new ≡ with_position self.old position }
     {
+        // Tells the proof how many cells there are, also where nothing is added.
+        let _ = &self.words;
         let missing = self.is_inside(position) && !self.has_vertex(position);
         if missing {
-            let per_row = words::row_words(self.width);
-            words::set_bit(self.words.as_mut_slice(), per_row, position.0, position.1);
+            self.flip(position, true);
         }
         Ok(missing)
     }
@@ -45,12 +46,28 @@ impl<A: Allocator> Grid<A> {
         ensures there { IfOk result (λ removed. removed ≡ has self.old position.0 position.1) }
         ensures removed { self.new ≡ without_position self.old position }
     {
+        // Tells the proof how many cells there are, also where nothing is taken out.
+        let _ = &self.words;
         let there = self.has_vertex(position);
         if there {
-            let per_row = words::row_words(self.width);
-            words::reset_bit(self.words.as_mut_slice(), per_row, position.0, position.1);
+            self.flip(position, false);
         }
         Ok(there)
+    }
+
+    /// Makes a position inside a vertex that is none, or takes out one that is.
+    fn flip(&mut self, position: (usize, usize), present: bool)
+        requires inside { IsInside self.old position }
+        requires other { has self.old position.0 position.1 ≡ not present }
+        ensures { self.new ≡ with_vertices self.old (λ x y. if is_position position x y then present else has self.old x y) }
+    {
+        let per_row = words::row_words(self.width);
+        words::turn_bit(self.words.as_mut_slice(), per_row, position.0, position.1);
+        if present {
+            self.len += 1;
+        } else {
+            self.len -= 1;
+        }
     }
 
     /// Takes all vertices out, and answers whether there were any.
@@ -59,7 +76,7 @@ impl<A: Allocator> Grid<A> {
         ensures cleared { self.new ≡ cleared self.old }
     {
         let some = !self.is_empty();
-        words::fill_words(self.words.as_mut_slice(), 0);
+        self.set_all(false);
         some
     }
 
@@ -68,21 +85,25 @@ impl<A: Allocator> Grid<A> {
         ensures missing { IsTrue result ↔ (vertex_count self.old < self.old.width * self.old.height) }
         ensures filled { self.new ≡ filled self.old }
     {
-        let missing = !self.is_full();
-        let (width, height) = (self.width, self.height);
-        let words = self.words.as_mut_slice();
-        words::fill_words(words, u64::MAX);
-        words::trim(words, width, height);
+        let missing = self.vertices_len() < self.size();
+        self.set_all(true);
         missing
+    }
+
+    /// Makes all positions inside vertices, or none.
+    fn set_all(&mut self, present: bool)
+        ensures { self.new ≡ with_vertices self.old (λ x y. present) }
+    {
+        words::clear_words(self.words.as_mut_slice());
+        self.inverted = present;
+        self.len = if present { self.width * self.height } else { 0 };
     }
 
     /// Exchanges the vertices and the other positions inside.
     pub fn invert(&mut self)
         ensures { self.new ≡ inverted self.old }
     {
-        let (width, height) = (self.width, self.height);
-        let words = self.words.as_mut_slice();
-        words::invert_words(words);
-        words::trim(words, width, height);
+        self.inverted = !self.inverted;
+        self.len = self.width * self.height - self.len;
     }
 }

@@ -2,13 +2,14 @@
 //!
 //! No crate exports this module.
 
-ghost use Rattle.std.specs.Prelude.{◌≡◌, ◌<◌, ◌+◌, ◌*◌, ℕ, [], true, false, Some, IfOk, IfErr, OnOk, length, slice_get, slice_set};
+ghost use Rattle.std.specs.Prelude.{◌≡◌, ◌↔◌, ◌<◌, ◌+◌, ◌*◌, ℕ, [], ◌∷◌, true, false, Some, None, if◌then◌else◌, Contains, IfOk, IfErr, OnOk, length, slice_get, slice_index_or, slice_set};
 ghost use Rattle.std.specs.BTreeSet.{IsFromIterResult};
+ghost use Rattle.std.specs.List.{filter_map};
 ghost use Rattle.pf_matrix.specs.Floods.{IsFlood, answer_at};
-ghost use Rattle.pf_matrix.specs.Internal.Flooding.{Spreads, free_count};
+ghost use Rattle.pf_matrix.specs.Internal.Flooding.{Has, Spreads, free_count};
 ghost use Rattle.pf_matrix.specs.Internal.PositionOrder.{position_cmp};
-ghost use Rattle.pf_matrix.specs.Positions.{neighbours_of};
-ghost use Rattle.pf_matrix.specs.Tables.{HasPosition, value_at};
+ghost use Rattle.pf_matrix.specs.Positions.{items_of, neighbours_of};
+ghost use Rattle.pf_matrix.specs.Tables.{HasPosition, IsMatrix, value_at};
 ghost use Rattle.pf_matrix.specs.declared.error.MatrixFormatError.TheVariants.{OutOfMemory};
 
 use crate::error::MatrixFormatError;
@@ -28,6 +29,9 @@ pub fn flood<A: Allocator + Copy>(
     ensures reached { IfOk result (IsFlood free.rows free.columns diagonals (answer_at free.rows free.columns free.values) start) }
     ensures refused { IfErr result (λ e. e ≡ OutOfMemory) }
 {
+    if !free.within_bounds(start) {
+        return Ok(set_of_one(alloc, start)?);
+    }
     let mut reached = Vec::new(alloc);
     reached.push(start)?;
     let mut next = 0;
@@ -35,7 +39,7 @@ pub fn flood<A: Allocator + Copy>(
         reach_around(&mut free, diagonals, reached[next], &mut reached)?;
         next += 1;
     }
-    Ok(set_of(alloc, &reached)?)
+    Ok(set_of(free, reached)?)
 }
 
 /// Puts the free neighbours of a position at the end of the list, and closes them. Where memory is
@@ -73,12 +77,72 @@ pub fn close<A: Allocator>(free: &mut Matrix<bool, A>, position: (usize, usize))
     mem::replace(&mut free.values[place], false)
 }
 
-/// The set of these positions. It sorts them, which is faster than to insert one after the other.
-pub fn set_of<A: Allocator + Copy>(
+/// The set of one position.
+pub fn set_of_one<A: Allocator + Copy>(
     alloc: A,
-    positions: &[(usize, usize)],
+    position: (usize, usize),
 ) -> Result<BTreeSet<(usize, usize), A>, AllocError>
-    ensures { IfOk result (IsFromIterResult position_cmp positions.now) }
+    ensures { IfOk result (λ set. set.keys ≡ position ∷ []) }
 {
-    positions.iter().copied().collect(alloc)
+    let mut set = BTreeSet::new(alloc);
+    set.insert(position)?;
+    Ok(set)
+}
+
+/// The set of these positions of a table. They are marked in the table, and put into the set as they
+/// stand there, by rows: then nothing has to be sorted, and the list is gone before there is a set.
+pub fn set_of<A: Allocator + Copy>(
+    mut table: Matrix<bool, A>,
+    positions: Vec<(usize, usize), A>,
+) -> Result<BTreeSet<(usize, usize), A>, AllocError>
+    requires { (p : ℕ × ℕ) → Has positions.items p → HasPosition table p.0 p.1 }
+    ensures { IfOk result (λ set. (p : ℕ × ℕ) → Contains set.keys p ↔ Has positions.items p) }
+{
+    mark(&mut table, positions);
+    set_of_marked(&table)
+}
+
+/// Makes the values at these positions `true`, and all others `false`.
+fn mark<A: Allocator>(table: &mut Matrix<bool, A>, positions: Vec<(usize, usize), A>)
+    requires { (p : ℕ × ℕ) → Has positions.items p → HasPosition table.old p.0 p.1 }
+    ensures sizes { (table.new.rows ≡ table.old.rows) × (table.new.columns ≡ table.old.columns) }
+    ensures marked { (p : ℕ × ℕ) → HasPosition table.old p.0 p.1 → (value_at table.new p.0 p.1 false ≡ true) ↔ Has positions.items p }
+{
+    clear(table.values.as_mut_slice());
+    for position in &positions {
+        open(table, *position);
+    }
+}
+
+/// Makes all values `false`.
+fn clear(values: &mut [bool])
+    ensures { (k : ℕ) → slice_index_or values.new k false ≡ false }
+{
+    for value in values.iter_mut() {
+        *value = false;
+    }
+}
+
+/// Makes the value at a position inside `true`.
+fn open<A: Allocator>(table: &mut Matrix<bool, A>, position: (usize, usize))
+    requires { HasPosition table.old position.0 position.1 }
+    ensures below { position.0 * table.old.columns + position.1 < length table.old.values }
+    ensures opened { table.new ≡ record { rows = table.old.rows; columns = table.old.columns; values = slice_set table.old.values (position.0 * table.old.columns + position.1) true } }
+{
+    let place = table.idx(position);
+    table.values[place] = true;
+}
+
+/// The set of the positions at which a table has `true`.
+fn set_of_marked<A: Allocator + Copy>(
+    table: &Matrix<bool, A>,
+) -> Result<BTreeSet<(usize, usize), A>, AllocError>
+    ensures matrix { IsMatrix table.now }
+    ensures marked { IfOk result (IsFromIterResult position_cmp (filter_map (λ i. if i.1 then Some i.0 else None) (items_of table.now))) }
+{
+    let alloc = *table.values.allocator();
+    table
+        .items()
+        .filter_map(|(position, is_marked)| is_marked.then_some(position))
+        .collect(alloc)
 }

@@ -65,9 +65,7 @@ impl<C: Clone + Drop, A: Allocator + Copy> Matrix<C, A> {
         ensures refused { IfErr result (λ e. e ≡ OutOfMemory) }
     {
         if times % 4 == 1 && self.is_square() {
-            let mut turned = self.flipped_ud()?;
-            turned.transpose_in_place();
-            return Ok(turned);
+            return self.square_by_columns(true);
         }
         let mut turned = if times % 2 == 0 {
             self.clone()?

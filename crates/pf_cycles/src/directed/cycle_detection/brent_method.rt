@@ -1,8 +1,8 @@
 //! Brent's method: the first of two values waits, and jumps to the second at each power of two.
 
-ghost use Rattle.std.specs.Prelude.{◌≡◌, ◌≤◌, ◌*◌, ◌^◌, ℕ, IfOk, IfErr};
+ghost use Rattle.std.specs.Prelude.{◌≡◌, ◌≤◌, ◌-◌, ◌*◌, ◌/◌, ◌^◌, ℕ, IfOk, IfErr, IfSome};
 ghost use Rattle.pf_base.specs.Answers.{IsLawfulClone};
-ghost use Rattle.pf_base.specs.declared.error.PathError.TheVariants.{StepOverflow};
+ghost use Rattle.pf_base.specs.declared.error.PathError.TheVariants.{OutOfMemory, StepOverflow};
 ghost use Rattle.pf_cycles.specs.Cycles.{AnswersStep, IsAfter, IsMet, IsCycle, IsMeetingOfBrent, IsStepRefusal};
 
 use crate::directed::cycle_detection::first_value::first_value;
@@ -17,8 +17,9 @@ fn doubled(steps: usize) -> Result<usize, PathError>
 }
 
 /// Where the second value comes back to the first: the length of the cycle, the value, and the
-/// steps to it.
-fn meeting<T, S>(start: &T, step: &S) -> Result<(usize, T, usize), PathError>
+/// steps to it. If the first value jumped, there is also the value at which it waited before, after
+/// half of the steps to the one at which it waits.
+fn meeting<T, S>(start: &T, step: &S) -> Result<(usize, T, usize, Option<T>), PathError>
 where
     T: Clone + Eq + Drop,
     S: Fn(T) -> T,
@@ -28,9 +29,13 @@ where
         → IfOk result (λ r. (index : ℕ) × IsCycle T.eq next start.now r.0 index × IsMeetingOfBrent r.0 index r.2) }
     ensures value { (next : T → T) → AnswersStep S.Fn T.eq step.now (IsMet T.eq next start.now) next
         → IfOk result (λ r. IsAfter T.eq next start.now r.2 r.1) }
+    ensures before { (next : T → T) → AnswersStep S.Fn T.eq step.now (IsMet T.eq next start.now) next
+        → IfOk result (λ r. IfSome r.3 (IsAfter T.eq next start.now ((r.2 - r.0) / 2))) }
+    ensures longer { IfOk result (λ r. r.0 ≤ r.2) }
     ensures refused { (next : T → T) → AnswersStep S.Fn T.eq step.now (IsMet T.eq next start.now) next
         → IfErr result (IsStepRefusal T.eq next start.now) }
 {
+    let mut before = None;
     let mut waiting = start.clone()?;
     let mut moving = step(start.clone()?);
     let mut power = 1usize;
@@ -38,13 +43,38 @@ where
     while waiting != moving {
         if length == power {
             power = doubled(power)?;
-            waiting = moving.clone()?;
+            let copy = moving.clone()?;
+            before = Some(waiting);
+            waiting = copy;
             length = 0;
         }
         moving = step(moving);
         length += 1;
     }
-    Ok((length, moving, power - 1 + length))
+    Ok((length, moving, power - 1 + length, before))
+}
+
+/// A value that is known and at most `most` steps from the start, and these steps: the one that waited
+/// before, or else the start.
+fn value_within<T>(
+    start: &T,
+    before: Option<T>,
+    steps: usize,
+    most: usize,
+) -> Result<(T, usize), PathError>
+where
+    T: Clone + Eq + Drop,
+    requires clones { IsLawfulClone T.eq T.is_clone }
+    ensures within { IfOk result (λ r. r.1 ≤ most) }
+    ensures value { (next : T → T) → IfSome before (IsAfter T.eq next start.now steps) → IfOk result (λ r. IsAfter T.eq next start.now r.1 r.0) }
+    ensures refused { IfErr result (λ e. e ≡ OutOfMemory) }
+{
+    if let Some(value) = before {
+        if steps <= most {
+            return Ok((value, steps));
+        }
+    }
+    Ok((start.clone()?, 0))
 }
 
 /// The length of the cycle that a step runs into, with a value of the cycle and the steps to it.
@@ -75,7 +105,8 @@ where
     ensures refused { (next : T → T) → AnswersStep S.Fn T.eq step (IsMet T.eq next start) next
         → IfErr result (IsStepRefusal T.eq next start) }
 {
-    meeting(&start, &step)
+    let (length, value, steps, _) = meeting(&start, &step)?;
+    Ok((length, value, steps))
 }
 
 /// The cycle that a step runs into: its length, its first value and the index of that value.
@@ -105,7 +136,8 @@ where
     ensures refused { (next : T → T) → AnswersStep S.Fn T.eq step (IsMet T.eq next start) next
         → IfErr result (IsStepRefusal T.eq next start) }
 {
-    let (length, _, steps) = meeting(&start, &step)?;
-    let (value, index) = first_value(start, &step, length, steps)?;
+    let (length, _, steps, before) = meeting(&start, &step)?;
+    let known = value_within(&start, before, (steps - length) / 2, length)?;
+    let (value, index) = first_value(start, &step, known, length, steps);
     Ok((length, value, index))
 }

@@ -1,35 +1,32 @@
 //! The first value of a cycle whose length is known.
 
-ghost use Rattle.std.specs.Prelude.{◌≡◌, ◌<◌, ℕ, IfOk, IfErr};
-ghost use Rattle.pf_base.specs.Answers.{IsLawfulClone};
-ghost use Rattle.pf_base.specs.declared.error.PathError.TheVariants.{OutOfMemory};
+ghost use Rattle.std.specs.Prelude.{◌≡◌, ◌<◌, ◌≤◌, ℕ};
 ghost use Rattle.pf_cycles.specs.Cycles.{AnswersStep, IsAfter, IsMet, Repeats};
 
-use pf_base::PathError;
-
-/// The first value that is met again `length` steps later, and its index, which is at most `most`:
-/// one value follows the other at a distance of `length` steps until they are equal.
+/// The first value that is met again `distance` steps later, and its index, which is at most `most`:
+/// one value follows the other at this distance until they are equal. The one ahead is known after so
+/// many steps already.
 pub fn first_value<T, S>(
     start: T,
     step: &S,
-    length: usize,
+    known: (T, usize),
+    distance: usize,
     most: usize,
-) -> Result<(T, usize), PathError>
+) -> (T, usize)
 where
-    T: Clone + Eq + Drop,
+    T: Eq + Drop,
     S: Fn(T) -> T,
-    requires clones { IsLawfulClone T.eq T.is_clone }
-    requires steps { (next : T → T) × AnswersStep S.Fn T.eq step.now (IsMet T.eq next start) next × Repeats T.eq next start most length }
-    ensures value { (next : T → T) → AnswersStep S.Fn T.eq step.now (IsMet T.eq next start) next
-        → IfOk result (λ r. IsAfter T.eq next start r.1 r.0) }
-    ensures repeats { (next : T → T) → AnswersStep S.Fn T.eq step.now (IsMet T.eq next start) next
-        → IfOk result (λ r. Repeats T.eq next start r.1 length) }
-    ensures first { (next : T → T) → AnswersStep S.Fn T.eq step.now (IsMet T.eq next start) next
-        → IfOk result (λ r. (i : ℕ) → i < r.1 → ¬ (Repeats T.eq next start i length)) }
-    ensures refused { IfErr result (λ e. e ≡ OutOfMemory) }
+    requires within { known.1 ≤ distance }
+    requires steps { (next : T → T) × AnswersStep S.Fn T.eq step.now (IsMet T.eq next start) next × IsAfter T.eq next start known.1 known.0 × Repeats T.eq next start most distance }
+    ensures value { (next : T → T) → AnswersStep S.Fn T.eq step.now (IsMet T.eq next start) next → IsAfter T.eq next start known.1 known.0
+        → IsAfter T.eq next start result.1 result.0 }
+    ensures repeats { (next : T → T) → AnswersStep S.Fn T.eq step.now (IsMet T.eq next start) next → IsAfter T.eq next start known.1 known.0
+        → Repeats T.eq next start result.1 distance }
+    ensures first { (next : T → T) → AnswersStep S.Fn T.eq step.now (IsMet T.eq next start) next → IsAfter T.eq next start known.1 known.0
+        → (i : ℕ) → i < result.1 → ¬ (Repeats T.eq next start i distance) }
 {
-    let mut ahead = start.clone()?;
-    for _ in 0..length {
+    let (mut ahead, at) = known;
+    for _ in at..distance {
         ahead = step(ahead);
     }
     let mut value = start;
@@ -39,5 +36,5 @@ where
         ahead = step(ahead);
         index += 1;
     }
-    Ok((value, index))
+    (value, index)
 }

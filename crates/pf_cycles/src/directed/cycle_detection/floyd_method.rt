@@ -131,7 +131,8 @@ where
     ensures refused { (next : T → T) → AnswersStep S.Fn T.eq step (IsMet T.eq next start) next
         → IfErr result (IsStepRefusal T.eq next start) }
 {
-    let (length, _, steps) = meeting(&start, &step)?;
-    let (value, index) = first_value(start, &step, length, steps)?;
+    let (length, met, steps) = meeting(&start, &step)?;
+    // The steps to the meeting are a multiple of the length.
+    let (value, index) = first_value(start, &step, (met, steps), steps, steps);
     Ok((length, value, index))
 }

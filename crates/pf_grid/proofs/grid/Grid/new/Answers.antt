@@ -1,8 +1,10 @@
-use Rattle.std.proofs.Common.{◌≤◌, ◌*◌, ◌∙◌, ap, false, arith, length}
+use Rattle.std.proofs.Common.{◌≤◌, ◌*◌, ◌∙◌, ap, sym, false, arith, length}
+use Rattle.std.specs.List.{count_by}
 use Rattle.std.proofs.Math.Nat.{mul-le-mul_right}
 use Rattle.std.proofs.lemmas.List.{length-replicate}
 use Rattle.pf_grid.specs.Internal.Words.{row_words}
-use Rattle.pf_grid.proofs.CellLemmas.{same_grids}
+use Rattle.pf_grid.proofs.CellLemmas.{same_cells, same_grids}
+use Rattle.pf_grid.proofs.CountLemmas.{count_all}
 use Rattle.pf_grid.proofs.WordLemmas.{no_bits}
 use Rattle.pf_grid.proofs.grid.Grid.new.Goals as goal
 
@@ -13,11 +15,13 @@ overflow_mul-row_words g c =
 
 pub invariant_of-result : goal.invariant_of-result
 invariant_of-result g c =
+    let w = c.args.width in
+    let h = c.args.height in
     let zeros = c.in_ok-words.ensures.items_if_clones_equal (λ y e. e) in
     record {
-      sized = ap length zeros ∙ length-replicate _ 0 ∙ ap (λ n. n * c.args.height) c.row_words.ensures;
+      sized = ap length zeros ∙ length-replicate _ 0 ∙ ap (λ n. n * h) c.row_words.ensures;
       fits = c.requires;
-      clean = λ x y p q h. no_bits _ _ _ x y zeros;
+      counted = sym (ap (λ cs. count_by (λ t. t) cs) (same_cells w h _ (λ x y. false) (λ x y p q. no_bits _ _ (row_words w) x y zeros)) ∙ count_all false w h);
     }
 
 pub returns-clause-made : goal.returns-clause-made

@@ -10,7 +10,8 @@ use Rattle.pf_grid.specs.declared.error.GridError.TheVariants.{OutOfMemory}
 use Rattle.pf_grid.specs.GridPositions.{grid_of, has, in_mode, is_position}
 use Rattle.pf_grid.specs.Vertices.{listed, vertices_of}
 use Rattle.pf_grid.proofs.CellLemmas.{put_more, same_grids}
-use Rattle.pf_grid.proofs.VertexLemmas.{any_more, listed_vertices, same_coordinates}
+use Rattle.pf_grid.proofs.VertexLemmas.{any_more, listed_vertices}
+use Rattle.pf_grid.proofs.WordLemmas.{same_coordinates}
 use Rattle.pf_grid.proofs.grid.Grid.resize.Goals as goal
 
 or_if : (p o : Bool) → (if p then true else o) ≡ (p || o)

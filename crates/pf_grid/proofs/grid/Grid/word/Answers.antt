@@ -1,7 +1,7 @@
-use Rattle.std.proofs.Common.{◌≡◌, ℕ, ◌∙◌, ◌+◌, ◌*◌, ◌/◌, ◌%◌, ◌<◌, ap, sym, arith, inl, inr, nat_eq, get_or, List, length}
+use Rattle.std.proofs.Common.{◌≡◌, ℕ, ◌∙◌, ◌&&◌, ◌+◌, ◌*◌, ◌/◌, ◌%◌, ◌<◌, ap, sym, arith, inl, inr, nat_eq, nat_lt, get_or, List, length}
 use Rattle.std.specs.Int.{bit_at}
-use Rattle.std.proofs.lemmas.Bool.{cases_lt}
-use Rattle.pf_grid.specs.Internal.Words.{bit, row_words}
+use Rattle.std.proofs.lemmas.Bool.{cases_lt, lt-ltb, le-ltb}
+use Rattle.pf_grid.specs.Internal.Words.{bit, held, row_words, turned}
 use Rattle.pf_grid.specs.GridPositions.{has}
 use Rattle.std.proofs.lemmas.List.{get_or_default}
 use Rattle.pf_grid.proofs.WordLemmas.{row_in}
@@ -25,9 +25,13 @@ returns-then-y-self g c = λ i h.
     let short : (c.args.place * 64 + i) / 64 < row_words s.width = omega (arith, c.row_words-per_row.ensures, c.if-place-per_row.true) in
     let k : ℕ = c.args.y * c.row_words-per_row.result + c.args.place in
     let there : c.args.y * c.row_words-per_row.result + c.args.place < length s.words.items = omega (arith, row_in c.row_words-per_row.result s.height c.args.y row, ap (λ n. n * s.height) c.row_words-per_row.ensures, c.if-place-per_row.true) in
+    let v = c.index.result.now in
+    let bits =
     ap (λ v. nat_eq (bit_at v i) 1) (c.index.ensures ∙ get_or_default s.words.items k _ 0 there ∙ ap (λ n. get_or s.words.items (c.args.y * n + c.args.place) 0) c.row_words-per_row.ensures)
-    ∙ at_place s.words.items (row_words s.width) c.args.place i c.args.y h
-    ∙ elim (cases_lt (c.args.place * 64 + i) s.width) as (λ _. bit s.words.items (row_words s.width) (c.args.place * 64 + i) c.args.y ≡ has now (c.args.place * 64 + i) c.args.y) [
-      | inl p ↦ view_has now _ _ _ _ c.self.view_is (c.args.place * 64 + i) c.args.y p row
-      | inr p ↦ c.self.invariant.clean (c.args.place * 64 + i) c.args.y p (omega (arith, short)) row ∙ sym (has_beyond now (c.args.place * 64 + i) c.args.y (omega (arith, wide)))
+    ∙ at_place s.words.items (row_words s.width) c.args.place i c.args.y h in
+    c.trimmed.ensures i h
+    ∙ ap (λ t. nat_lt (c.args.place * 64 + i) s.width && t) (c.turned_if-bits.ensures i h ∙ ap (turned s.inverted) bits)
+    ∙ elim (cases_lt (c.args.place * 64 + i) s.width) as (λ _. (nat_lt (c.args.place * 64 + i) s.width && held s.words.items (row_words s.width) s.inverted (c.args.place * 64 + i) c.args.y) ≡ has now (c.args.place * 64 + i) c.args.y) [
+      | inl p ↦ ap (λ t. t && held s.words.items (row_words s.width) s.inverted (c.args.place * 64 + i) c.args.y) (lt-ltb (c.args.place * 64 + i) s.width p) ∙ view_has now _ _ _ _ c.self.view_is (c.args.place * 64 + i) c.args.y p row
+      | inr p ↦ ap (λ t. t && held s.words.items (row_words s.width) s.inverted (c.args.place * 64 + i) c.args.y) (le-ltb (c.args.place * 64 + i) s.width p) ∙ sym (has_beyond now (c.args.place * 64 + i) c.args.y (omega (arith, wide)))
     ]

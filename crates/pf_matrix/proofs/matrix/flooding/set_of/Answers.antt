@@ -1,10 +1,11 @@
-use Rattle.std.specs.BTreeSet.{IsFromIterResult}
-use Rattle.std.proofs.lemmas.Iterator.{YieldsList-from_slice}
-use Rattle.std.proofs.lemmas.Iterator.Adapters.{fact_from_collect}
-use Rattle.std.proofs.lemmas.Iterator.Consumers.{YieldsList-at, YieldsList-from_copied}
-use Rattle.pf_matrix.specs.Internal.PositionOrder.{position_cmp}
+use Rattle.std.proofs.lemmas.Result.{IfOk-weaker}
+use Rattle.pf_matrix.proofs.MarkLemmas.{set_of_marks}
 use Rattle.pf_matrix.proofs.matrix.flooding.set_of.Goals as goal
 
 pub returns : goal.returns
-returns g c = fact_from_collect (IsFromIterResult position_cmp) c.collect.result c.collect.ensures.ran
-    (YieldsList-from_copied (YieldsList-at c.copied.ensures.source (YieldsList-from_slice c.args.positions.now c.iter.ensures.rest)))
+returns g c =
+    let marks = c.mark.ensures in
+    let now = c.mark.new.table in
+    IfOk-weaker c.set_of_marked.result _ _
+    (λ set made. set_of_marks now c.set_of_marked.ensures.matrix c.args.positions.items (λ p h. let at = c.requires p h in (rw marks.sizes.0 at.0, rw marks.sizes.1 at.1))
+    (λ p h. marks.marked p (rw (← marks.sizes.0) h.0, rw (← marks.sizes.1) h.1)) set made) c.set_of_marked.ensures.marked
