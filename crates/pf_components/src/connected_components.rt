@@ -10,12 +10,14 @@ ghost use Rattle.pf_base.specs.Answers.{IsLawfulClone};
 ghost use Rattle.pf_base.specs.Walks.{HasNode};
 ghost use Rattle.pf_base.specs.declared.error.PathError.TheVariants.{OutOfMemory};
 ghost use Rattle.pf_components.specs.Components.{AreIdentified, MapsVertices, MapsToGreatest, IsComponents, IsComponentsAround};
+ghost use Rattle.pf_components.specs.Internal.DisjointSets.{AreRowsOf};
 
 use crate::around::groups_around;
 use crate::disjoint_sets::{map_nodes, unite_groups};
 pub use crate::node_sets::SetIn;
-use crate::node_sets::collect_nodes;
+use crate::node_sets::{collect_nodes, collect_sets};
 use pf_base::{PathError, SuccessorFunction};
+use pf_union_find::rows::Rows;
 use std::alloc::Allocator;
 use std::collections::{HashMap, HashSet};
 use std::hash::{BuildHasher, BuildHasherDefault, FoldHasher, Hash};
@@ -93,6 +95,20 @@ where
     Ok(of_node)
 }
 
+/// The vertices of each disjoint set of groups, in rows. What numbers them is given back before the
+/// sets take their memory.
+fn node_rows<'a, N, A, B>(alloc: A, groups: &'a [Vec<N, B>]) -> Result<Rows<&'a N, A>, PathError>
+where
+    N: Eq + Hash,
+    A: Allocator + Copy,
+    B: Allocator,
+    ensures rows { IfOk result (AreRowsOf N.eq groups.now) }
+    ensures refused { IfErr result (λ e. e ≡ OutOfMemory) }
+{
+    let united = unite_groups(alloc, groups)?;
+    collect_nodes(alloc, united.nodes.as_slice(), &united.first, &united.ids)
+}
+
 /// The sets of vertices that chains of groups with shared vertices join.
 ///
 /// Each set has exactly the vertices of the groups that such chains join, as nodes that are equal to
@@ -107,8 +123,8 @@ where
     ensures components { IfOk result (λ sets. IsComponents N.eq groups.now sets.items) }
     ensures refused { IfErr result (λ e. e ≡ OutOfMemory) }
 {
-    let united = unite_groups(alloc, groups)?;
-    collect_nodes(alloc, united.nodes.as_slice(), &united.first, &united.ids)
+    let rows = node_rows(alloc, groups)?;
+    collect_sets(alloc, &rows)
 }
 
 /// The sets of nodes that are connected around some starts.

@@ -1,6 +1,6 @@
 //! Disjoint sets of groups of vertices: groups that share vertices are in one set.
 
-ghost use Rattle.std.specs.Prelude.{◌≡◌, ◌<◌, ◌∷◌, ◌++◌, [], ℕ, List, All, length, map, IfOk, IfErr, OnOk};
+ghost use Rattle.std.specs.Prelude.{◌≡◌, ◌<◌, ◌≤◌, ◌∷◌, ◌++◌, [], ℕ, List, All, length, map, IfOk, IfErr, OnOk};
 ghost use Rattle.pf_base.specs.declared.error.PathError.TheVariants.{OutOfMemory};
 ghost use Rattle.pf_components.specs.Internal.DisjointSets.{IsGathered, IsIdOf, Identifies, AreDisjointSets, MapsByFirst, pair_with, pairs_from};
 ghost use Rattle.pf_union_find.specs.UnionFind.{IsSound, IsLabelling};
@@ -9,25 +9,28 @@ use indexmap::IndexSet;
 use pf_base::PathError;
 use pf_union_find::Nodes;
 use pf_union_find::union_find::{find, make_sets, unite};
+use pf_union_find::vertex_number::VertexNumber;
 use std::alloc::Allocator;
 use std::collections::HashMap;
 use std::hash::{BuildHasherDefault, FoldHasher, Hash};
 
 /// Notes that a group has a node: its set is united with those of the groups that have the node too.
-fn gather_node<'a, N, A>(
+fn gather_node<'a, N, V, A>(
     nodes: &mut Nodes<'a, N, A>,
     first: &mut Vec<usize, A>,
-    parents: &mut [usize],
+    parents: &mut [V],
     group: usize,
     node: &'a N,
 ) -> Result<(), PathError>
 where
     N: Eq + Hash,
+    V: VertexNumber,
     A: Allocator,
-    requires gathered { (pairs : List (ℕ × N)) × IsGathered N.eq pairs nodes.old.keys first.old.items parents.old }
+    requires gathered { (pairs : List (ℕ × N)) × IsGathered N.eq pairs nodes.old.keys first.old.items (map V.stands_for parents.old) }
     requires inside { group < length parents.old }
-    ensures gathered { OnOk result ((pairs : List (ℕ × N)) → IsGathered N.eq pairs nodes.old.keys first.old.items parents.old
-        → IsGathered N.eq (pairs ++ (group, node.now) ∷ []) nodes.new.keys first.new.items parents.new) }
+    requires fit { length parents.old ≤ V.bound }
+    ensures gathered { OnOk result ((pairs : List (ℕ × N)) → IsGathered N.eq pairs nodes.old.keys first.old.items (map V.stands_for parents.old)
+        → IsGathered N.eq (pairs ++ (group, node.now) ∷ []) nodes.new.keys first.new.items (map V.stands_for parents.new)) }
     ensures refused { IfErr result (λ e. e ≡ OutOfMemory) }
 {
     let (number, added) = nodes.insert_full(node)?;
@@ -40,20 +43,22 @@ where
 }
 
 /// Notes that a group has some nodes.
-fn gather_group<'a, N, A>(
+fn gather_group<'a, N, V, A>(
     nodes: &mut Nodes<'a, N, A>,
     first: &mut Vec<usize, A>,
-    parents: &mut [usize],
+    parents: &mut [V],
     group: usize,
     members: &'a [N],
 ) -> Result<(), PathError>
 where
     N: Eq + Hash,
+    V: VertexNumber,
     A: Allocator,
-    requires gathered { (pairs : List (ℕ × N)) × IsGathered N.eq pairs nodes.old.keys first.old.items parents.old }
+    requires gathered { (pairs : List (ℕ × N)) × IsGathered N.eq pairs nodes.old.keys first.old.items (map V.stands_for parents.old) }
     requires inside { group < length parents.old }
-    ensures gathered { OnOk result ((pairs : List (ℕ × N)) → IsGathered N.eq pairs nodes.old.keys first.old.items parents.old
-        → IsGathered N.eq (pairs ++ map (pair_with group) members.now) nodes.new.keys first.new.items parents.new) }
+    requires fit { length parents.old ≤ V.bound }
+    ensures gathered { OnOk result ((pairs : List (ℕ × N)) → IsGathered N.eq pairs nodes.old.keys first.old.items (map V.stands_for parents.old)
+        → IsGathered N.eq (pairs ++ map (pair_with group) members.now) nodes.new.keys first.new.items (map V.stands_for parents.new)) }
     ensures refused { IfErr result (λ e. e ≡ OutOfMemory) }
 {
     for node in members {
@@ -63,19 +68,21 @@ where
 }
 
 /// Notes the nodes of all groups.
-fn gather<'a, N, A, B>(
+fn gather<'a, N, V, A, B>(
     nodes: &mut Nodes<'a, N, A>,
     first: &mut Vec<usize, A>,
-    parents: &mut [usize],
+    parents: &mut [V],
     groups: &'a [Vec<N, B>],
 ) -> Result<(), PathError>
 where
     N: Eq + Hash,
+    V: VertexNumber,
     A: Allocator,
     B: Allocator,
-    requires none { IsGathered N.eq [] nodes.old.keys first.old.items parents.old }
+    requires none { IsGathered N.eq [] nodes.old.keys first.old.items (map V.stands_for parents.old) }
     requires inside { length parents.old ≡ length groups.now }
-    ensures gathered { OnOk result (IsGathered N.eq (pairs_from 0 groups.now) nodes.new.keys first.new.items parents.new) }
+    requires fit { length parents.old ≤ V.bound }
+    ensures gathered { OnOk result (IsGathered N.eq (pairs_from 0 groups.now) nodes.new.keys first.new.items (map V.stands_for parents.new)) }
     ensures refused { IfErr result (λ e. e ≡ OutOfMemory) }
 {
     for (group, members) in groups.iter().enumerate() {
@@ -85,11 +92,11 @@ where
 }
 
 /// The identifier of a group: the root of its set, or `usize::MAX` where it has no members.
-fn identifier<N>(parents: &mut [usize], group: usize, members: &[N]) -> usize
-    requires sound { IsSound parents.old }
+fn identifier<N, V: VertexNumber>(parents: &mut [V], group: usize, members: &[N]) -> usize
+    requires sound { IsSound (map V.stands_for parents.old) }
     requires inside { group < length parents.old }
-    ensures sound { IsSound parents.new }
-    ensures labels { (label : ℕ → ℕ) → IsLabelling label parents.old → IsLabelling label parents.new × IsIdOf label (length parents.old) group members.now result }
+    ensures sound { IsSound (map V.stands_for parents.new) }
+    ensures labels { (label : ℕ → ℕ) → IsLabelling label (map V.stands_for parents.old) → IsLabelling label (map V.stands_for parents.new) × IsIdOf label (length parents.old) group members.now result }
 {
     if members.is_empty() {
         usize::MAX
@@ -99,18 +106,19 @@ fn identifier<N>(parents: &mut [usize], group: usize, members: &[N]) -> usize
 }
 
 /// The identifiers of the groups.
-fn identify<N, A, B>(
+fn identify<N, V, A, B>(
     alloc: A,
-    parents: &mut [usize],
+    parents: &mut [V],
     groups: &[Vec<N, B>],
 ) -> Result<Vec<usize, A>, PathError>
 where
+    V: VertexNumber,
     A: Allocator,
     B: Allocator,
-    requires sound { IsSound parents.old }
+    requires sound { IsSound (map V.stands_for parents.old) }
     requires len { length parents.old ≡ length groups.now }
     ensures len { IfOk result (λ ids. length ids.items ≡ length groups.now) }
-    ensures identified { IfOk result (λ ids. (label : ℕ → ℕ) → IsLabelling label parents.old → Identifies label (length groups.now) groups.now ids.items) }
+    ensures identified { IfOk result (λ ids. (label : ℕ → ℕ) → IsLabelling label (map V.stands_for parents.old) → Identifies label (length groups.now) groups.now ids.items) }
     ensures refused { IfErr result (λ e. e ≡ OutOfMemory) }
 {
     let mut ids = Vec::with_capacity(alloc, groups.len())?;
@@ -147,7 +155,31 @@ where
     Ok(DisjointSets { nodes, first, ids })
 }
 
-/// Notes the nodes of all groups, and answers the identifiers of the groups.
+/// Notes the nodes of all groups, and answers the identifiers of the groups. The groups are numbered by
+/// the type `V`.
+fn gather_by<'a, N, V, A, B>(
+    alloc: A,
+    nodes: &mut Nodes<'a, N, A>,
+    first: &mut Vec<usize, A>,
+    groups: &'a [Vec<N, B>],
+) -> Result<Vec<usize, A>, PathError>
+where
+    N: Eq + Hash,
+    V: VertexNumber + Drop,
+    A: Allocator + Copy,
+    B: Allocator,
+    requires none { (nodes.old.keys ≡ []) × (first.old.items ≡ []) }
+    requires fit { length groups.now ≤ V.bound }
+    ensures united { IfOk result (λ ids. AreDisjointSets N.eq groups.now nodes.new.keys first.new.items ids.items) }
+    ensures refused { IfErr result (λ e. e ≡ OutOfMemory) }
+{
+    let mut sets = make_sets::<V, A>(alloc, groups.len())?;
+    let parents = sets.as_mut_slice();
+    gather(nodes, first, parents, groups)?;
+    identify(alloc, parents, groups)
+}
+
+/// The same, by numbers of 32 bits where these serve.
 fn gather_and_identify<'a, N, A, B>(
     alloc: A,
     nodes: &mut Nodes<'a, N, A>,
@@ -162,10 +194,11 @@ where
     ensures united { IfOk result (λ ids. AreDisjointSets N.eq groups.now nodes.new.keys first.new.items ids.items) }
     ensures refused { IfErr result (λ e. e ≡ OutOfMemory) }
 {
-    let mut sets = make_sets(alloc, groups.len())?;
-    let parents = sets.as_mut_slice();
-    gather(nodes, first, parents, groups)?;
-    identify(alloc, parents, groups)
+    if groups.len() <= u32::MAX as usize {
+        gather_by::<N, u32, A, B>(alloc, nodes, first, groups)
+    } else {
+        gather_by::<N, usize, A, B>(alloc, nodes, first, groups)
+    }
 }
 
 /// A map from each node to the identifier of its first group.

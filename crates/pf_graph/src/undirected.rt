@@ -9,5 +9,4 @@ pub mod prim;
 mod spanning;
 mod spanning_edges;
 mod steps;
-mod vertex_number;
 mod weighed;

@@ -1,8 +1,8 @@
 -- Steps of union and find.
-use Rattle.std.proofs.Common.{ℕ, ◌<◌, ◌≤◌, ◌==◌, ◌≡◌, ◌≢◌, refl, sym, ◌∙◌, ap, arith, Bool, true, false, eq-eqb, if◌then◌else◌, List, ◌⊎◌, inl, inr, length, get_or, set, length-set, get_or-set_same, get_or-set_other}
+use Rattle.std.proofs.Common.{ℕ, ◌<◌, ◌≤◌, ◌==◌, ◌≡◌, ◌≢◌, refl, sym, ◌∙◌, ap, subst, arith, Bool, true, false, eq-eqb, if◌then◌else◌, List, map, ◌⊎◌, inl, inr, length, get_or, set, length-set, get_or-set_same, get_or-set_other}
 use Rattle.std.proofs.lemmas.Bool.Decides.{nat_tests}
 use Rattle.std.proofs.lemmas.Bool.{cases_eq}
-use Rattle.std.proofs.lemmas.List.{get_or_default}
+use Rattle.std.proofs.lemmas.List.{get_or_default, get_or-map, length-map, map-set}
 use Rattle.pf_union_find.specs.UnionFind.{parent_of, IsRoot, IsSound, IsLabelling, Merges}
 
 -- the parents after one is written
@@ -63,6 +63,38 @@ Led-up ps s k inside =
             same,
           );
     }
+
+-- ---- parents in words that stand for them
+
+-- the number that a word stands for
+pub number_at : {V : Type 0} (stands : V → ℕ) (words : List V) (k : ℕ) (v : V) → k < length words → v ≡ get_or words k v → get_or (map stands words) k 0 ≡ stands v
+number_at stands words k v inside at = get_or-map stands words k v 0 inside ∙ ap stands (sym at)
+
+-- Below, p is the parent of k, and the word g, which stands for n, is that of the parent of p.
+module _ {V : Type 0} (stands : V → ℕ) (words : List V) (s : IsSound (map stands words)) (k : ℕ) (inside : k < length words) (v : V) (at : v ≡ get_or words k v) (p : ℕ) (is_p : p ≡ stands v) where
+  room : k < length (map stands words)
+  room = omega (arith, inside, length-map words stands)
+
+  parent : get_or (map stands words) k 0 ≡ p
+  parent = number_at stands words k v inside at ∙ sym is_p
+
+  pub word_falls : p ≤ k
+  word_falls = let f = parent_falls (map stands words) s k room in omega (arith, f, parent)
+
+  pub word_inside : p < length words
+  word_inside = omega (arith, word_falls, inside)
+
+  module _ (g : V) (up_at : g ≡ get_or words p g) (n : ℕ) (is_n : n ≡ stands g) where
+    up : get_or (map stands words) p 0 ≡ n
+    up = number_at stands words p g word_inside up_at ∙ sym is_n
+
+    pub up_falls : n ≤ p
+    up_falls = let f = parent_falls (map stands words) s p (omega (arith, word_inside, length-map words stands)) in omega (arith, f, up)
+
+    pub Led-word : Led (map stands words) (map stands (set words k g)) k n
+    Led-word =
+        subst (λ ps. Led (map stands words) ps k n) (sym (map-set stands words k g ∙ ap (set (map stands words) k) (sym is_n)))
+        (subst (λ m. Led (map stands words) (set (map stands words) k m) k m) (ap (λ m. get_or (map stands words) m 0) parent ∙ up) (Led-up (map stands words) s k room))
 
 -- ---- a root is put below another
 

@@ -1,3 +1,4 @@
 pub mod Joined
 pub mod Nodes
+pub mod Rows
 pub mod UnionFind

@@ -1,10 +1,11 @@
 -- Groups of vertices while they are gathered, a vertex of a group at a time.
-use Rattle.std.specs.Prelude.{◌≡◌, ◌↔◌, ◌<◌, ◌^◌, ◌-◌, ℕ, suc, Bool, true, List, [], ◌∷◌, ◌++◌, Some, Option, Vec, slice_get, length, nat_eq, Contains, map}
+use Rattle.std.specs.Prelude.{◌≡◌, ◌↔◌, ◌<◌, ◌^◌, ◌-◌, ℕ, suc, Bool, true, List, [], ◌∷◌, ◌++◌, Some, Vec, slice_get, length, nat_eq, Contains, map}
 use Rattle.std.specs.Borrow.{Bor}
 use Rattle.std.specs.HashMap.{HashMap, get}
 use Rattle.std.specs.List.{IsDistinct}
 use Rattle.pf_union_find.specs.Joined.{Joined}
 use Rattle.pf_union_find.specs.Nodes.{StandsFor}
+use Rattle.pf_union_find.specs.Rows.{HasItem}
 use Rattle.pf_union_find.specs.UnionFind.{IsSound, IsLabelling}
 
 abbrev pub pair_with : {N : Type 0} → ℕ → N → ℕ × N
@@ -53,19 +54,21 @@ pub record MapsByFirst {N S : Type 0} (eq : N → N → Bool) (nodes : List (Bor
 abbrev pub AreDisjointSets : {N A : Type 0} → (N → N → Bool) → List (Vec N A) → List (Bor N) → List ℕ → List ℕ → Type 0
 AreDisjointSets eq groups nodes first ids = (parents : List ℕ) × (g : IsGathered eq (pairs_from 0 groups) nodes first parents) × Identifies g.label (length groups) groups ids × (length ids ≡ length groups) × (length parents ≡ length groups)
 
--- the nodes so far, each with its identifier, are in sets, one for each identifier
-pub record IsCollected {N T : Type 0} (eq : N → N → Bool) (has : T → N → Bool) (done : List (ℕ × N)) (place_of : List (Option ℕ)) (sets : List T) : Type 0 where
-  pub inside : (id p : ℕ) → slice_get place_of id ≡ Some (Some p) → p < length sets
-  pub apart : (a b p : ℕ) → slice_get place_of a ≡ Some (Some p) → slice_get place_of b ≡ Some (Some p) → a ≡ b
-  pub reached : (p : ℕ) → p < length sets → (q : ℕ × N) × Contains done q × (slice_get place_of q.0 ≡ Some (Some p))
-  pub placed : (q : ℕ × N) → Contains done q → (p : ℕ) × (slice_get place_of q.0 ≡ Some (Some p))
-  pub members : (id p : ℕ) (s : T) (x : N) → slice_get place_of id ≡ Some (Some p) → slice_get sets p ≡ Some s → (has s x ≡ true) ↔ ((q : ℕ × N) × Contains done q × (q.0 ≡ id) × (eq q.1 x ≡ true))
+-- the row of each identifier has the nodes whose first group has it
+pub record AreLaidOut {N : Type 0} (nodes : List (Bor N)) (first ids : List ℕ) (rows : List ℕ × List ℕ × List (Bor N)) : Type 0 where
+  pub from : (id : ℕ) (m : Bor N) → HasItem rows id m → (k : ℕ) × (j : ℕ) × (slice_get nodes k ≡ Some m) × (slice_get first k ≡ Some j) × (slice_get ids j ≡ Some id)
+  pub all : (k : ℕ) (m : Bor N) (j id : ℕ) → slice_get nodes k ≡ Some m → slice_get first k ≡ Some j → slice_get ids j ≡ Some id → HasItem rows id m
 
--- the nodes of numbers below n are done, each with the identifier of its first group
-pub record AreDone {N : Type 0} (nodes : List (Bor N)) (first ids : List ℕ) (n : ℕ) (done : List (ℕ × N)) : Type 0 where
-  pub from : (q : ℕ × N) → Contains done q → (k : ℕ) × (m : Bor N) × (j : ℕ) × (slice_get nodes k ≡ Some m) × (slice_get first k ≡ Some j) × (slice_get ids j ≡ Some q.0) × (q.1 ≡ m.now)
-  pub all : (k : ℕ) (m : Bor N) (j id : ℕ) → k < n → slice_get nodes k ≡ Some m → slice_get first k ≡ Some j → slice_get ids j ≡ Some id → Contains done (id, m.now)
+-- each row below n that has nodes has a set of its own
+pub record HaveSets {N T : Type 0} (eq : N → N → Bool) (has : T → N → Bool) (rows : List ℕ × List ℕ × List (Bor N)) (n : ℕ) (sets : List T) : Type 0 where
+  pub owners : List ℕ
+  pub len : length owners ≡ length sets
+  pub low : (p row : ℕ) → slice_get owners p ≡ Some row → row < n
+  pub some : (p row : ℕ) → slice_get owners p ≡ Some row → (m : Bor N) × HasItem rows row m
+  pub members : (p row : ℕ) (s : T) (x : N) → slice_get owners p ≡ Some row → slice_get sets p ≡ Some s → (has s x ≡ true) ↔ ((m : Bor N) × HasItem rows row m × (eq m.now x ≡ true))
+  pub apart : (p q row : ℕ) → slice_get owners p ≡ Some row → slice_get owners q ≡ Some row → p ≡ q
+  pub all : (row : ℕ) (m : Bor N) → row < n → HasItem rows row m → (p : ℕ) × (slice_get owners p ≡ Some row)
 
--- all nodes are in sets, each with the identifier of its first group
-abbrev pub AreCollected : {N T : Type 0} → (N → N → Bool) → (T → N → Bool) → List (Bor N) → List ℕ → List ℕ → List T → Type 0
-AreCollected {N} eq has nodes first ids sets = (done : List (ℕ × N)) × (place_of : List (Option ℕ)) × AreDone nodes first ids (length first) done × IsCollected eq has done place_of sets
+-- the groups are in disjoint sets, and the row of each identifier has the nodes of its set
+abbrev pub AreRowsOf : {N A : Type 0} → (N → N → Bool) → List (Vec N A) → List ℕ × List ℕ × List (Bor N) → Type 0
+AreRowsOf {N} {A} eq groups rows = (nodes : List (Bor N)) × (first : List ℕ) × (ids : List ℕ) × AreDisjointSets eq groups nodes first ids × AreLaidOut nodes first ids rows

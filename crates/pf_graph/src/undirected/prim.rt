@@ -87,7 +87,7 @@ where
     let Some(first) = numbered.edges.first() else {
         return Ok(Vec::new(alloc));
     };
-    let start = first.0;
+    let start = first.0 as usize;
     let count = numbered.count;
     let rows = rows_of(alloc, count, numbered.edges)?;
     let mut covered = filled(alloc, count, false)?;

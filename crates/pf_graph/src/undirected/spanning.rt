@@ -1,6 +1,6 @@
 //! A forest of edges between numbered vertices that is least under every weight bound.
 
-ghost use Rattle.std.specs.Prelude.{◌≡◌, ◌↔◌, ◌≤◌, ℕ, Contains, IfOk, IfErr, IsTrue, nat_eq, length};
+ghost use Rattle.std.specs.Prelude.{◌≡◌, ◌↔◌, ◌≤◌, ℕ, Contains, IfOk, IfErr, IsTrue, map, nat_eq, length};
 ghost use Rattle.std.specs.List.Sorted.{IsSorted};
 ghost use Rattle.pf_base.specs.declared.error.PathError.TheVariants.{OutOfMemory};
 ghost use Rattle.pf_base.specs.Answers.{IsLawfulClone};
@@ -8,9 +8,9 @@ ghost use Rattle.pf_graph.specs.Spanning.{IsForest, IsLeastUnderEveryBound, AreC
 ghost use Rattle.pf_graph.specs.Internal.Spanning.SpanningSteps.{HoldsCopies, placed};
 ghost use Rattle.pf_union_find.specs.UnionFind.{IsSound, IsLabelling};
 
-use crate::undirected::vertex_number::VertexNumber;
 use pf_base::PathError;
 use pf_union_find::union_find::{make_sets, unite};
+use pf_union_find::vertex_number::VertexNumber;
 use std::alloc::Allocator;
 use std::marker::PhantomData;
 
@@ -41,15 +41,16 @@ where
 /// The edges of `sorted` whose ends no edges before them join. The sets of their ends are united.
 fn choose_edges<V, C, A>(
     alloc: A,
-    parents: &mut [usize],
+    parents: &mut [V],
     sorted: Vec<(V, V, C), A>,
 ) -> Result<Vec<(usize, usize, C), A>, PathError>
 where
     V: VertexNumber + Drop,
     C: Ord + Drop,
     A: Allocator,
-    requires sound { IsSound parents.old }
-    requires singletons { IsLabelling (λ x. x) parents.old }
+    requires sound { IsSound (map V.stands_for parents.old) }
+    requires singletons { IsLabelling (λ x. x) (map V.stands_for parents.old) }
+    requires fit { length parents.old ≤ V.bound }
     requires below { AreBelow (length parents.old) (placed V.stands_for sorted.items) }
     requires sorted { IsSorted (λ e f. C.cmp e.2 f.2) (placed V.stands_for sorted.items) }
     ensures forest { IfOk result (λ chosen. IsForest nat_eq chosen.items) }
@@ -78,6 +79,7 @@ where
     V: VertexNumber + Drop,
     C: Ord + Drop,
     A: Allocator + Copy,
+    requires fit { number_of_nodes ≤ V.bound }
     requires below { AreBelow number_of_nodes (placed V.stands_for edges.items) }
     ensures forest { IfOk result (λ chosen. IsForest nat_eq chosen.items) }
     ensures least { IfOk result (λ chosen. IsLeastUnderEveryBound nat_eq C.cmp (placed V.stands_for edges.items) chosen.items) }
@@ -86,7 +88,7 @@ where
     ensures refused { IfErr result (λ e. e ≡ OutOfMemory) }
 {
     edges.sort_unstable_by(|one, other| one.2.cmp(&other.2));
-    let mut parents = make_sets(alloc, number_of_nodes)?;
+    let mut parents = make_sets::<V, A>(alloc, number_of_nodes)?;
     choose_edges(alloc, &mut parents, edges)
 }
 

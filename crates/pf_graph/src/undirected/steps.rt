@@ -6,7 +6,7 @@ ghost use Rattle.pf_graph.specs.declared.undirected.steps.Step.{Step};
 ghost use Rattle.pf_graph.specs.Internal.Spanning.Frontier.{HasStep, HoldSteps};
 ghost use Rattle.pf_graph.specs.Spanning.{AreBelow};
 
-use crate::undirected::weighed::Weighed;
+use crate::undirected::numbered::NumberedEdge;
 use pf_base::PathError;
 use pf_base::filled::filled;
 use std::alloc::Allocator;
@@ -29,7 +29,7 @@ pub type Rows<'a, N, C, A> = Vec<Vec<Step<'a, N, C>, A>, A>;
 fn count_steps<'a, N, C, A>(
     alloc: A,
     count: usize,
-    edges: &[(usize, usize, Weighed<'a, N, C, ()>)],
+    edges: &[NumberedEdge<'a, N, C, ()>],
 ) -> Result<Vec<usize, A>, PathError>
 where
     A: Allocator,
@@ -39,8 +39,9 @@ where
 {
     let mut counts = filled(alloc, count, 0usize)?;
     for edge in edges {
-        counts[edge.0] = counts[edge.0].saturating_add(1);
-        counts[edge.1] = counts[edge.1].saturating_add(1);
+        let (one, other) = (edge.0 as usize, edge.1 as usize);
+        counts[one] = counts[one].saturating_add(1);
+        counts[other] = counts[other].saturating_add(1);
     }
     Ok(counts)
 }
@@ -82,7 +83,7 @@ where
 pub fn rows_of<'a, N, C, A>(
     alloc: A,
     count: usize,
-    edges: Vec<(usize, usize, Weighed<'a, N, C, ()>), A>,
+    edges: Vec<NumberedEdge<'a, N, C, ()>, A>,
 ) -> Result<Rows<'a, N, C, A>, PathError>
 where
     A: Allocator + Copy,
@@ -95,7 +96,7 @@ where
     let counts = count_steps(alloc, count, listed)?;
     let mut rows = empty_rows(alloc, &counts)?;
     for numbered in listed {
-        let (one, other) = (numbered.0, numbered.1);
+        let (one, other) = (numbered.0 as usize, numbered.1 as usize);
         let edge = numbered.2.edge;
         let onward = Step {
             weight: &edge.2,

@@ -1,39 +1,13 @@
-use Rattle.std.proofs.Common.{◌≡◌, sym, subst, ap, ◌∙◌, ◌<◌, length, ℕ, All, Some}
-use Rattle.std.specs.Prelude.{slice_get}
-use Rattle.std.proofs.lemmas.Option.{slice_get-get_or}
 use Rattle.std.proofs.lemmas.Result.{IfOk-weaker}
-use Rattle.pf_components.specs.Internal.DisjointSets.{AreDone}
-use Rattle.pf_components.proofs.PairLemmas.{first_id_below}
 use Rattle.pf_components.proofs.CollectLemmas.{are_components}
 use Rattle.pf_components.proofs.connected_components.components.Goals as goal
-
-pub collect_nodes-requires-clause-inside : goal.collect_nodes-requires-clause-inside
-collect_nodes-requires-clause-inside g c = λ k d h.
-    let p = c.in_ok-united.ensures.united in
-    let n : length c.deref-2.result.now ≡ length p.0 = ap length c.deref-2.ensures.value ∙ p.3 ∙ sym p.4 in
-    rw n (subst (λ xs. All (λ (m : ℕ). m < length p.0) xs) (sym c.deref.ensures.value) (λ i e l. p.1.inside i _ (slice_get-get_or c.in_ok-united.united.first.items i e l)) k d h)
-
-pub collect_nodes-requires-clause-below : goal.collect_nodes-requires-clause-below
-collect_nodes-requires-clause-below g c =
-    let p = c.in_ok-united.ensures.united in
-    subst (λ is. All (λ (m : ℕ). (id : ℕ) → slice_get is m ≡ Some id → id < length is) c.deref.result.now) (sym c.deref-2.ensures.value)
-    (subst (λ fs. All (λ (m : ℕ). (id : ℕ) → slice_get c.in_ok-united.united.ids.items m ≡ Some id → id < length c.in_ok-united.united.ids.items) fs) (sym c.deref.ensures.value)
-    (first_id_below g.met.N.Eq.laws c.args.groups.now c.in_ok-united.united.nodes.keys c.in_ok-united.united.first.items p.0 p.1 c.in_ok-united.united.ids.items p.2 p.3))
 
 pub returns : goal.returns
 returns g c = record {
   components =
-      let p = c.in_ok-united.ensures.united in
-      let u = c.in_ok-united.united in
-      IfOk-weaker c.collect_nodes.result _ _ (λ sets r.
-      let done_at : AreDone u.nodes.keys u.first.items u.ids.items (length u.nodes.keys) r.0 =
-      subst (λ (n : ℕ). AreDone u.nodes.keys u.first.items u.ids.items n r.0) (ap length c.deref.ensures.value ∙ p.1.len)
-      (subst (λ ns. AreDone ns u.first.items u.ids.items (length c.deref.result.now) r.0) c.as_slice.ensures.keys
-      (subst (λ fs. AreDone c.as_slice.result.now fs u.ids.items (length c.deref.result.now) r.0) c.deref.ensures.value
-      (subst (λ is. AreDone c.as_slice.result.now c.deref.result.now is (length c.deref.result.now) r.0) c.deref-2.ensures.value r.2))) in
-      are_components g.met.N.Eq.laws c.args.groups.now u.nodes.keys u.first.items p.0 p.1 u.ids.items p.2 p.3 p.4 r.0 done_at r.1 sets.items r.3) c.collect_nodes.ensures.collected;
-  refused = c.collect_nodes.ensures.refused;
+      let rows = c.in_ok-rows.rows in
+      let r = c.in_ok-rows.ensures.rows in
+      let p = r.3 in
+      IfOk-weaker c.collect_sets.result _ _ (λ sets h. are_components g.met.N.Eq.laws c.args.groups.now r.0 r.1 p.0 p.1 r.2 p.2 p.3 p.4 rows r.4 sets.items h) c.collect_sets.ensures.collected;
+  refused = c.collect_sets.ensures.refused;
 }
-
-pub collect_nodes-requires-clause-len : goal.collect_nodes-requires-clause-len
-collect_nodes-requires-clause-len g c = ap length c.deref.ensures.value ∙ c.in_ok-united.ensures.united.1.len ∙ sym (ap length c.as_slice.ensures.keys)

@@ -6,7 +6,7 @@ use Rattle.pf_components.proofs.disjoint_sets.gather.Goals as goal
 
 pub loop-group-preserved : goal.loop-group-preserved
 loop-group-preserved g c =
-    subst (λ ps. IsGathered g.N.PartialEq.eq ps c.gather_group.new.nodes.keys c.gather_group.new.first.items c.gather_group.new.parents)
+    subst (λ ps. IsGathered g.N.PartialEq.eq ps c.gather_group.new.nodes.keys c.gather_group.new.first.items (map g.V.VertexNumber.stands_for c.gather_group.new.parents))
     (ap (λ xs. pairs_from 0 (take c.loop-group.group c.args.groups.now) ++ map (pair_with c.loop-group.group) xs) c.deref.ensures.value ∙ pairs_from-more c.args.groups.now c.loop-group.group c.index-groups-group.result c.loop-group-test.true c.index-groups-group.is)
     (c.in_ok-gather_group.ensures.gathered (pairs_from 0 (take c.loop-group.group c.args.groups.now)) c.loop-group.invariant)
 
@@ -21,6 +21,6 @@ gather_group-requires-clause-inside g c = subst (λ (n : ℕ). c.loop-group.grou
 
 pub returns : goal.returns
 returns g c = record {
-  gathered = subst (λ gs. IsGathered g.N.PartialEq.eq (pairs_from 0 gs) c.loop-group.nodes.keys c.loop-group.first.items c.loop-group.parents) (take_all c.loop-group.group c.args.groups.now c.loop-group-test.false) c.loop-group.invariant;
+  gathered = subst (λ gs. IsGathered g.N.PartialEq.eq (pairs_from 0 gs) c.loop-group.nodes.keys c.loop-group.first.items (map g.V.VertexNumber.stands_for c.loop-group.parents)) (take_all c.loop-group.group c.args.groups.now c.loop-group-test.false) c.loop-group.invariant;
   refused = tt;
 }

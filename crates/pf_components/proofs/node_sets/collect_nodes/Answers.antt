@@ -1,30 +1,37 @@
-use Rattle.std.proofs.Common.{◌≡◌, sym, subst, ap, ◌∙◌, [], None, length, replicate}
-use Rattle.std.specs.HashSet.{contains}
-use Rattle.std.proofs.lemmas.List.{length-replicate}
-use Rattle.pf_components.specs.Internal.DisjointSets.{IsCollected}
-use Rattle.pf_components.proofs.CollectLemmas.{IsCollected-none, no_place}
+use Rattle.std.proofs.Common.{◌<◌, ◌∙◌, ℕ, refl, arith, length}
+use Rattle.std.specs.Prelude.{slice_index}
+use Rattle.std.proofs.lemmas.Option.{slice_get-get_or, slice_get_read}
+use Rattle.std.proofs.lemmas.List.{get_or_default}
+use Rattle.pf_components.proofs.CollectLemmas.{count_more, count_room, AreLaidOut-more}
 use Rattle.pf_components.proofs.node_sets.collect_nodes.Goals as goal
 
-pub collect_into-requires-clause-below : goal.collect_into-requires-clause-below
-collect_into-requires-clause-below g c = λ k d l id e.
-    let items : c.deref_mut.result.now ≡ replicate (length c.args.ids.now) None = c.deref_mut.ensures.value ∙ c.in_ok-place_of.ensures.items in
-    let n : length c.deref_mut.result.now ≡ length c.args.ids.now = ap length items ∙ length-replicate (length c.args.ids.now) None in
-    rw n (c.requires.below k d l id e)
+pub put-requires-clause-room : goal.put-requires-clause-room
+put-requires-clause-room g c =
+    let ids = c.args.ids.now in
+    let first = c.args.first.now in
+    let i = c.loop-number.number in
+    let j : ℕ = slice_index first i in
+    let id : ℕ = slice_index ids j in
+    let low : id < length ids = c.requires.below i 0 c.loop-number-test.true id (slice_get-get_or ids j 0 (c.requires.inside i 0 c.loop-number-test.true)) in
+    let fill = c.loop-number.invariant.fill id low in
+    let room = c.loop-number.invariant.room id low in
+    let less = count_room ids first i c.loop-number-test.true j refl id refl in
+    omega (arith, fill, room, less)
 
-pub collect_into-requires-clause-none : goal.collect_into-requires-clause-none
-collect_into-requires-clause-none g c =
-    let items : c.deref_mut.result.now ≡ replicate (length c.args.ids.now) None = c.deref_mut.ensures.value ∙ c.in_ok-place_of.ensures.items in
-    subst (λ ps. IsCollected g.N.PartialEq.eq (contains g.N.PartialEq.eq) [] ps c.new-sets.result.items) (sym items)
-    (subst (λ ss. IsCollected g.N.PartialEq.eq (contains g.N.PartialEq.eq) [] (replicate (length c.args.ids.now) None) ss) (sym c.new-sets.ensures.items)
-    (IsCollected-none g.N.PartialEq.eq (contains g.N.PartialEq.eq) (replicate (length c.args.ids.now) None) (no_place (length c.args.ids.now))))
-
-pub collect_into-requires-clause-inside : goal.collect_into-requires-clause-inside
-collect_into-requires-clause-inside g c = c.requires.inside
-
-pub returns : goal.returns
-returns g c = record {
-  collected =
-      let h = c.in_ok-collect_into.ensures.collected in
-      (h.0, c.collect_into.new.place_of, h.1, h.2);
-  refused = tt;
-}
+pub loop-number-preserved : goal.loop-number-preserved
+loop-number-preserved g c =
+    let ids = c.args.ids.now in
+    let first = c.args.first.now in
+    let i = c.loop-number.number in
+    let j : ℕ = slice_index first i in
+    let id : ℕ = slice_index ids j in
+    let inside = c.requires.inside i 0 c.loop-number-test.true in
+    let put = c.put.ensures in
+    let there : i < length c.args.nodes.now = omega (arith, c.loop-number-test.true, c.requires.len) in
+    record {
+      wide = put.count ∙ c.loop-number.invariant.wide;
+      room = λ other l. put.room other ∙ c.loop-number.invariant.room other l;
+      fill = count_more ids first i c.loop-number-test.true j refl id refl _ _ (length ids) put.fill c.loop-number.invariant.fill;
+      placed = AreLaidOut-more c.args.nodes.now first ids c.loop-number.rows c.put.new.self i c.index-nodes-number.result j id c.loop-number-test.true (get_or_default first i 0 j c.loop-number-test.true)
+          (slice_get_read c.args.nodes.now (length c.args.nodes.now) i c.index-nodes-number.result refl there c.index-nodes-number.is) (slice_get-get_or ids j 0 inside) put.items c.loop-number.invariant.placed;
+    }

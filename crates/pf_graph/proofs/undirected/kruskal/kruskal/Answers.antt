@@ -14,7 +14,7 @@ use Rattle.pf_graph.proofs.undirected.kruskal.kruskal.Goals.{After-into_iter}
 pub spanning_forest-requires : goal.spanning_forest-requires
 spanning_forest-requires g c =
     let n = c.in_ok-numbered.ensures.numbered in
-    record { below = subst (λ xs. AreBelow c.in_ok-numbered.numbered.count xs) (sym (placed-same c.in_ok-numbered.numbered.edges.items)) (numbered_below n.0 c.args.edges.now c.in_ok-numbered.numbered.edges.items n.2 c.in_ok-numbered.numbered.count n.1) }
+    record { fit = c.in_ok-numbered.ensures.few; below = subst (λ xs. AreBelow c.in_ok-numbered.numbered.count xs) (sym (placed-same c.in_ok-numbered.numbered.edges.items)) (numbered_below n.0 c.args.edges.now c.in_ok-numbered.numbered.edges.items n.2 c.in_ok-numbered.numbered.count n.1) }
 
 weights-cloned : (g : Over) (c : After-into_iter g) → All (λ (e : ℕ × ℕ × Weighed g.row.N.Denot g.row.C.Denot g.row.C.Denot). g.C.Clone.is_clone e.2.edge.now.2 e.2.weight) c.in_ok-numbered.numbered.edges.items
 weights-cloned g c = λ k d inside. let r = c.in_ok-numbered.ensures.weighed k d inside in let e = r.shows in let p = r.says.met in search rules

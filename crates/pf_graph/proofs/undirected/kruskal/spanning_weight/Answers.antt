@@ -21,7 +21,7 @@ not_overflow (Err x) e h m o = let same : x ≡ OutOfMemory = h ∙ m in cc
 pub spanning_forest-requires : goal.spanning_forest-requires
 spanning_forest-requires g c =
     let n = c.in_ok-numbered.ensures.numbered in
-    record { below = subst (λ xs. AreBelow c.in_ok-numbered.numbered.count xs) (sym (placed-same c.in_ok-numbered.numbered.edges.items)) (numbered_below n.0 c.args.edges.now c.in_ok-numbered.numbered.edges.items n.2 c.in_ok-numbered.numbered.count n.1) }
+    record { fit = c.in_ok-numbered.ensures.few; below = subst (λ xs. AreBelow c.in_ok-numbered.numbered.count xs) (sym (placed-same c.in_ok-numbered.numbered.edges.items)) (numbered_below n.0 c.args.edges.now c.in_ok-numbered.numbered.edges.items n.2 c.in_ok-numbered.numbered.count n.1) }
 
 weights-are : (g : Over) (c : After-deref-2 g) → c.deref-2.result.now ≡ map (λ (e : ℕ × ℕ × Weighed g.row.N.Denot g.row.C.Denot g.row.C.Denot). e.2.weight) c.in_ok-chosen.chosen.items
 weights-are g c = c.deref-2.ensures.value ∙ c.in_ok-weights.ensures.weights ∙ ap (map (λ (e : ℕ × ℕ × Weighed g.row.N.Denot g.row.C.Denot g.row.C.Denot). e.2.weight)) c.deref.ensures.value

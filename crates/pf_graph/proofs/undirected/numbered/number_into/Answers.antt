@@ -1,5 +1,5 @@
 use Rattle.std.proofs.Common.{arith, ◌≡◌, [], ◌∷◌, ◌++◌, refl, sym, subst, ap, take, take_all, ◌∙◌, ◌+◌}
-use Rattle.std.specs.Prelude.{map}
+use Rattle.std.specs.Prelude.{map, slice_get}
 use Rattle.std.proofs.lemmas.List.{map-append, take_more}
 use Rattle.std.proofs.lemmas.List.Elements.{All-nil, All-push, All-same}
 use Rattle.pf_graph.specs.Internal.NumberedEdges.{IsNumbered, IsWeighed}
@@ -22,11 +22,13 @@ loop-edge-preserved g c =
     let laws = g.met.N.Eq.laws in
     let from = c.in_ok-from.ensures.stored in
     let to = c.in_ok-to.ensures.stored in
+    let one = c.in_ok-one.ensures.same in
+    let other = c.in_ok-other.ensures.same in
     record {
       numbered = subst (λ xs. IsNumbered g.N.PartialEq.eq c.insert_full-in-loop-edge.new.self.keys (take (c.loop-edge.edge-index + 1) c.args.edges.now) xs) (sym c.in_ok-push.ensures.items)
           (IsNumbered-more laws c.loop-edge.nodes.keys c.insert_full.new.self.keys c.insert_full-in-loop-edge.new.self.keys c.args.edges.now c.loop-edge.numbered.items c.loop-edge.edge-index _ _ _ c.loop-edge-test.true c.edge-item.is
           c.in_ok-from.ensures.keys c.in_ok-to.ensures.keys
-          (from.0, from.1, laws.symm _ _ ∙ from.2) (to.0, to.1, laws.symm _ _ ∙ to.2) c.insert_full-in-loop-edge.ensures.unique c.loop-edge.invariant.numbered);
+          (from.0, ap (slice_get c.insert_full.new.self.keys) one ∙ from.1, laws.symm _ _ ∙ from.2) (to.0, ap (slice_get c.insert_full-in-loop-edge.new.self.keys) other ∙ to.1, laws.symm _ _ ∙ to.2) c.insert_full-in-loop-edge.ensures.unique c.loop-edge.invariant.numbered);
       in_order = ap (map (λ e. e.2.edge.now)) c.in_ok-push.ensures.items
           ∙ map-append (λ e. e.2.edge.now) c.loop-edge.numbered.items _
           ∙ ap (λ xs. xs ++ c.edge-item.result ∷ []) c.loop-edge.invariant.in_order

@@ -1,5 +1,5 @@
 use Rattle.std.proofs.Common.{ℕ, ◌≡◌, arith, nat_eq, sym, ◌∙◌, subst, length, ◌∷◌, ◌++◌, [], vec_len}
-use Rattle.std.specs.Prelude.{Contains}
+use Rattle.std.specs.Prelude.{Contains, map}
 use Rattle.std.proofs.lemmas.List.{map-id}
 use Rattle.std.proofs.lemmas.Iterator.Adapters.{YieldsList-from_vec}
 use Rattle.std.proofs.lemmas.Iterator.Consumers.{YieldsList-so_far, YieldsList-turn, YieldsList-end}
@@ -14,7 +14,9 @@ use Rattle.pf_graph.proofs.undirected.spanning.choose_edges.Goals as goal
 pub edges-init : goal.edges-init
 edges-init g c = record {
   sound = c.requires.sound;
-  grown = subst (λ xs. Grown g.C.Ord.cmp [] xs c.args.parents.now) (sym c.in_ok-chosen.ensures.items) (Grown-start g.C.Ord.cmp c.args.parents.now c.requires.singletons);
+  grown =
+      let parents = map g.V.VertexNumber.stands_for c.args.parents.now in
+      subst (λ xs. Grown g.C.Ord.cmp [] xs parents) (sym c.in_ok-chosen.ensures.items) (Grown-start g.C.Ord.cmp parents c.requires.singletons);
 }
 
 pub unite-requires-clause-inside : goal.unite-requires-clause-inside
@@ -41,8 +43,8 @@ edges-preserved g c =
     let up = λ (d : ℕ × ℕ × g.row.C.Denot) (h : Contains (placed vertex c.edges.yielded) d). placed-heavy vertex g.C.Ord.cmp g.met.C.Ord.total c.args.sorted.items c.requires.sorted (length c.edges.yielded) e t.0 t.1 d (subst (λ xs. Contains (placed vertex xs) d) so_far h) in
     record {
       sound = c.unite.ensures.sound;
-      grown = subst (λ xs. Grown g.C.Ord.cmp xs c.edges.chosen.items c.unite.new.parents) (sym more)
-          (Grown-skip g.C.Ord.cmp g.met.C.Ord.total (placed vertex c.edges.yielded) c.edges.chosen.items c.edges.parents c.unite.new.parents taken i up u.0 u.1 u.2.0 u.2.1);
+      grown = subst (λ xs. Grown g.C.Ord.cmp xs c.edges.chosen.items (map vertex c.unite.new.parents)) (sym more)
+          (Grown-skip g.C.Ord.cmp g.met.C.Ord.total (placed vertex c.edges.yielded) c.edges.chosen.items (map vertex c.edges.parents) (map vertex c.unite.new.parents) taken i up u.0 u.1 u.2.0 u.2.1);
     }
 
 pub edges-preserved-in-Continue-branch-2 : goal.edges-preserved-in-Continue-branch-2
@@ -60,9 +62,9 @@ edges-preserved-in-Continue-branch-2 g c =
     let up = λ (d : ℕ × ℕ × g.row.C.Denot) (h : Contains (placed vertex c.edges.yielded) d). placed-heavy vertex g.C.Ord.cmp g.met.C.Ord.total c.args.sorted.items c.requires.sorted (length c.edges.yielded) e t.0 t.1 d (subst (λ xs. Contains (placed vertex xs) d) so_far h) in
     record {
       sound = c.unite.ensures.sound;
-      grown = subst (λ xs. Grown g.C.Ord.cmp xs c.push.new.self.items c.unite.new.parents) (sym more)
-          (subst (λ xs. Grown g.C.Ord.cmp (placed vertex c.edges.yielded ++ taken ∷ []) xs c.unite.new.parents) (sym c.in_ok-push.ensures.items)
-          (Grown-take g.C.Ord.cmp g.met.C.Ord.total (placed vertex c.edges.yielded) c.edges.chosen.items c.edges.parents c.unite.new.parents taken i up u.0 u.1 u.2.0 u.2.1));
+      grown = subst (λ xs. Grown g.C.Ord.cmp xs c.push.new.self.items (map vertex c.unite.new.parents)) (sym more)
+          (subst (λ xs. Grown g.C.Ord.cmp (placed vertex c.edges.yielded ++ taken ∷ []) xs (map vertex c.unite.new.parents)) (sym c.in_ok-push.ensures.items)
+          (Grown-take g.C.Ord.cmp g.met.C.Ord.total (placed vertex c.edges.yielded) c.edges.chosen.items (map vertex c.edges.parents) (map vertex c.unite.new.parents) taken i up u.0 u.1 u.2.0 u.2.1));
     }
 
 pub returns-clause-given : goal.returns-clause-given

@@ -6,6 +6,7 @@ use Rattle.pf_graph.proofs.undirected.spanning.forest_of_copies.Goals as goal
 
 pub spanning_forest-requires : goal.spanning_forest-requires
 spanning_forest-requires g c = record {
+  fit = c.requires.fit;
   below = below_copies g.C.Clone.is_clone c.args.number_of_nodes c.args.edges.now (placed g.V.VertexNumber.stands_for c.in_ok-copies.copies.items) c.in_ok-copies.ensures.copies c.requires.below;
 }
 

@@ -1,4 +1,4 @@
-use Rattle.std.proofs.Common.{ℕ, ◌<◌, ◌∙◌, sym, ap, subst, rules, length}
+use Rattle.std.proofs.Common.{ℕ, ◌<◌, ◌∙◌, sym, ap, subst, rules, length, map}
 use Rattle.std.specs.Ordering.{is_lt}
 use Rattle.std.proofs.lemmas.List.Sorted.{All-permutation, Contains-permutation, IsPermutation-sym, ranks_by, answers_always}
 use Rattle.pf_graph.specs.Spanning.{AreBelow}
@@ -24,10 +24,10 @@ choose_edges-requires-clause-sorted g c =
     (c.sort_unstable_by.ensures.sorted (λ e f. is_lt (g.C.Ord.cmp e.2 f.2)) (ranks_by g.met.C.Ord.total (λ e. e.2)) (answers_always _ _ _ (λ f a r f' k. search rules)))
 
 pub choose_edges-requires-clause-sound : goal.choose_edges-requires-clause-sound
-choose_edges-requires-clause-sound g c = subst IsSound (sym c.deref_mut.ensures.value) c.in_ok-parents.ensures.sound
+choose_edges-requires-clause-sound g c = subst (λ ps. IsSound (map g.V.VertexNumber.stands_for ps)) (sym c.deref_mut.ensures.value) c.in_ok-parents.ensures.sound
 
 pub choose_edges-requires-clause-singletons : goal.choose_edges-requires-clause-singletons
-choose_edges-requires-clause-singletons g c = subst (IsLabelling (λ x. x)) (sym c.deref_mut.ensures.value) c.in_ok-parents.ensures.labels
+choose_edges-requires-clause-singletons g c = subst (λ ps. IsLabelling (λ x. x) (map g.V.VertexNumber.stands_for ps)) (sym c.deref_mut.ensures.value) c.in_ok-parents.ensures.labels
 
 pub returns : goal.returns
 returns g c =

@@ -1,4 +1,4 @@
-//! Numbers of vertices in copies of edges: of 32 bits, where those of all vertices fit.
+//! Numbers of vertices: of 32 bits, where those of all vertices fit.
 
 ghost use Rattle.std.specs.Prelude.{◌≡◌, ◌<◌, ◌^◌, ℕ};
 
