@@ -12,7 +12,7 @@ ghost use Rattle.pf_flow.specs.Internal.SparseProps.{Rises-prop};
 
 use crate::edmonds_karp::EdmondsKarp;
 use pf_base::{PathError, SignedCost};
-use pf_residual::sparse_row::{Row, flow_ends, residual_ends};
+use pf_residual::sparse_row::{Row, flow_ends, list_residual_ends, residual_ends};
 use pf_residual::store::FlowStore;
 use std::alloc::{AllocError, Allocator, Global};
 
@@ -71,7 +71,11 @@ impl<C: SignedCost, A: Allocator + Copy> FlowStore<C> for SparseCapacity<C, A> {
     }
 
     fn residual_capacity(&self, from: usize, to: usize) -> C {
-        self.rows[from].residual(to)
+        self.rows[from].residual(to, 0)
+    }
+
+    fn residual_capacity_near(&self, from: usize, to: usize, place: usize) -> C {
+        self.rows[from].residual(to, place)
     }
 
     fn residual_successors<B: Allocator + Copy>(
@@ -80,6 +84,14 @@ impl<C: SignedCost, A: Allocator + Copy> FlowStore<C> for SparseCapacity<C, A> {
         from: usize,
     ) -> Result<Vec<(usize, C), B>, PathError> {
         residual_ends(alloc, self.rows[from].edges())
+    }
+
+    fn list_residual<B: Allocator + Copy>(
+        &self,
+        from: usize,
+        ends: &mut Vec<(usize, usize), B>,
+    ) -> Result<(), PathError> {
+        list_residual_ends(self.rows[from].edges(), ends)
     }
 
     fn flows_from<B: Allocator + Copy>(
@@ -119,8 +131,12 @@ impl<C: SignedCost, A: Allocator + Copy> FlowStore<C> for SparseCapacity<C, A> {
     }
 
     fn add_flow(&mut self, from: usize, to: usize, amount: C) {
+        self.add_flow_near(from, to, 0, amount);
+    }
+
+    fn add_flow_near(&mut self, from: usize, to: usize, place: usize, amount: C) {
         self.sum = None;
-        self.rows[from].carry(to, amount);
+        self.rows[from].carry(to, place, amount);
         self.rows[to].take_back(from, amount);
     }
 
