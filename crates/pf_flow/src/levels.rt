@@ -101,7 +101,8 @@ impl<A: Allocator + Copy> Levels<A> {
         for end in ends.as_slice() {
             self.reach(from, level, end.0)?;
         }
-        self.arcs.add_row(from, level, ends.as_slice(), &self.levels)
+        self.arcs
+            .add_row(from, level, ends.as_slice(), &self.levels)
     }
 
     /// Reaches a vertex from one of a level, if it was not reached before.

@@ -62,6 +62,15 @@ impl<C, A: Allocator> Row<C, A> {
             edges: Vec::new(alloc),
         }
     }
+
+    /// A row without edges, with room for so many. The only error is `OutOfMemory`.
+    pub fn with_room(alloc: A, count: usize) -> Result<Self, PathError>
+        ensures empty { IfOk result (λ row. row ≡ []) }
+        ensures refused { IfErr result (λ e. e ≡ OutOfMemory) }
+    {
+        let edges = Vec::with_capacity(alloc, count)?;
+        Ok(Row { edges })
+    }
 }
 
 /// How many edges lead to vertices below `to`.
