@@ -40,9 +40,11 @@ where
     let sink = store.sink();
     let mut path = Vec::new(alloc);
     path.resize(size, 0)?;
+    let mut places = Vec::new(alloc);
+    places.resize(size, 0)?;
     found.find(alloc, store)?;
     'phases: while found.levels[sink] < size {
-        augment_phase(store, found, &mut path, tally);
+        augment_phase(store, found, &mut path, &mut places, tally);
         found.find(alloc, store)?;
     }
     Ok(())

@@ -1,6 +1,6 @@
 //! A store that keeps a number for each pair of vertices.
 
-ghost use Rattle.std.specs.Prelude.{◌≡◌, ◌<◌, ◌*◌, ◌^◌, ◌<ℤ◌, pos, IfOk, IfErr};
+ghost use Rattle.std.specs.Prelude.{◌≡◌, ◌<◌, ◌*◌, ◌^◌, ◌<ℤ◌, pos, map, IfOk, IfErr, OnOk};
 ghost use Rattle.pf_base.specs.declared.error.PathError.TheVariants.{OutOfMemory};
 ghost use Rattle.std.specs.Option.{ForSome};
 ghost use Rattle.pf_residual.specs.Flows.{IsAntisymmetric};
@@ -63,6 +63,27 @@ fn numbers_above<C: SignedCost, A: Allocator, B: Allocator>(
         }
     }
     Ok(list)
+}
+
+/// Lists the vertices to which the numbers of a row are above 0, in rising order, in the place of what
+/// was listed before. The only error is `OutOfMemory`.
+fn list_above<C: SignedCost, A: Allocator, B: Allocator>(
+    table: &Matrix<C, A>,
+    from: usize,
+    list: &mut Vec<(usize, usize), B>,
+) -> Result<(), PathError>
+    requires square { IsSquare table.now.rows table.now }
+    requires inside { from < table.now.rows }
+    ensures listed { OnOk result (ListsVertices table.now.rows (λ to. pos 0 <ℤ table_number C.value table.now.rows table.now from to) (map (λ end. end.0) list.new.items)) }
+    ensures refused { IfErr result (λ e. e ≡ OutOfMemory) }
+{
+    list.clear();
+    for to in 0..table.rows() {
+        if is_below(C::zero(), number_at(table, from, to)) {
+            list.push((to, 0))?;
+        }
+    }
+    Ok(())
 }
 
 /// The vertices to which the numbers of a row are above 0, in rising order. The only error is
@@ -131,6 +152,14 @@ impl<C: SignedCost, A: Allocator + Copy> FlowStore<C> for DenseCapacity<C, A> {
         from: usize,
     ) -> Result<Vec<(usize, C), B>, PathError> {
         numbers_above(alloc, &self.residuals, from)
+    }
+
+    fn list_residual<B: Allocator + Copy>(
+        &self,
+        from: usize,
+        ends: &mut Vec<(usize, usize), B>,
+    ) -> Result<(), PathError> {
+        list_above(&self.residuals, from, ends)
     }
 
     fn flows_from<B: Allocator + Copy>(

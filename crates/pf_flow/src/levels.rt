@@ -46,9 +46,10 @@ impl<A: Allocator + Copy> Levels<A> {
         ensures refused { IfErr result (λ e. e ≡ OutOfMemory) }
     {
         self.begin(store)?;
+        let mut ends = Vec::new(alloc);
         let mut at = 0;
         while at < self.queue.len() {
-            self.follow(alloc, store, at)?;
+            self.follow(store, at, &mut ends)?;
             at += 1;
         }
         Ok(())
@@ -76,8 +77,14 @@ impl<A: Allocator + Copy> Levels<A> {
         self.arcs.reset(size)
     }
 
-    /// Follows the pairs with residual capacity from the vertex at a place of the queue.
-    fn follow<C, S>(&mut self, alloc: A, store: &S, at: usize) -> Result<(), PathError>
+    /// Follows the pairs with residual capacity from the vertex at a place of the queue, which are
+    /// listed for that.
+    fn follow<C, S>(
+        &mut self,
+        store: &S,
+        at: usize,
+        ends: &mut Vec<(usize, usize), A>,
+    ) -> Result<(), PathError>
     where
         C: SignedCost,
         S: FlowStore<C>,
@@ -90,11 +97,12 @@ impl<A: Allocator + Copy> Levels<A> {
     {
         let from = self.queue[at];
         let level = self.levels[from];
-        let ends = store.residual_successors(alloc, from)?;
-        for end in &ends {
+        store.list_residual(from, ends)?;
+        for end in ends.as_slice() {
             self.reach(from, level, end.0)?;
         }
-        self.arcs.add_row(from, level, &ends, &self.levels)
+        self.arcs
+            .add_row(from, level, ends.as_slice(), &self.levels)
     }
 
     /// Reaches a vertex from one of a level, if it was not reached before.

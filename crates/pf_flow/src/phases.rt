@@ -15,7 +15,13 @@ use std::alloc::Allocator;
 
 /// Adds as much flow along a path to the sink as its pairs have left, with a tick. The levels stay
 /// levels, and their potential rises by as much.
-fn augment_path<C, S>(store: &mut S, levels: &[usize], path: &[usize], tally: &mut Tally)
+fn augment_path<C, S>(
+    store: &mut S,
+    levels: &[usize],
+    path: &[usize],
+    places: &[usize],
+    tally: &mut Tally,
+)
 where
     C: SignedCost,
     S: FlowStore<C>,
@@ -25,12 +31,13 @@ where
     requires labelling { IsLabelling (S.network store.old).vertices (S.network store.old).source (S.network store.old).residual (slice_index levels.now) }
     requires levels_len { length levels.now ≡ (S.network store.old).vertices }
     requires path_len { length path.now ≡ (S.network store.old).vertices }
+    requires places_len { length places.now ≡ (S.network store.old).vertices }
     requires reached { slice_index levels.now (S.network store.old).sink < (S.network store.old).vertices }
     ensures network { IsNetwork C.fits (S.network store.new) }
     ensures augmented { IsAugmented (slice_index levels.now) (S.network store.old) (S.network store.new) tally.old tally.new }
 {
     let depth = levels[store.sink()];
-    add_along(store, &path[..depth + 1]);
+    add_along(store, &path[..depth + 1], &places[..depth + 1]);
     tally.tick();
 }
 
@@ -41,6 +48,7 @@ pub fn augment_phase<C, S, A>(
     store: &mut S,
     found: &mut Levels<A>,
     path: &mut [usize],
+    places: &mut [usize],
     tally: &mut Tally,
 )
 where
@@ -52,12 +60,13 @@ where
     requires found { HoldsLevels (S.network store.old) found.old }
     requires reached { slice_index found.old.levels.items (S.network store.old).sink < (S.network store.old).vertices }
     requires path_len { length path.old ≡ (S.network store.old).vertices }
+    requires places_len { length places.old ≡ (S.network store.old).vertices }
     ensures network { IsNetwork C.fits (S.network store.new) }
     ensures augmented { IsAugmented (slice_index found.old.levels.items) (S.network store.old) (S.network store.new) tally.old tally.new }
 {
     found.write_path(path, store.sink());
-    augment_path(store, &found.levels, path, tally);
-    'paths: while find_augmenting_path(store, &found.levels, &mut found.arcs, path) {
-        augment_path(store, &found.levels, path, tally);
+    augment_path(store, &found.levels, path, places, tally);
+    'paths: while find_augmenting_path(store, &found.levels, &mut found.arcs, path, places) {
+        augment_path(store, &found.levels, path, places, tally);
     }
 }

@@ -1,10 +1,9 @@
 -- Arcs between vertices, and the search by depth first for a path over them.
 use Rattle.std.proofs.Common.{◌≡◌, ◌≢◌, ◌∙◌, inl, inr, sym, ap, subst, ◌<◌, ◌≤◌, ◌+◌, ◌-◌, ℕ, suc, pos, arith, List, [], ◌∷◌, ◌++◌, length, replicate, length-append}
-use Rattle.std.specs.Prelude.{◌<ℤ◌, slice_index, slice_set}
+use Rattle.std.specs.Prelude.{◌<ℤ◌, Some, slice_get, slice_index, slice_set}
 use Rattle.std.proofs.lemmas.Bool.{cases_eq}
 use Rattle.std.proofs.lemmas.List.{get_or-replicate, get_or-set_same, get_or-set_other, length-set, length-replicate}
-use Rattle.std.proofs.Math.ListN.{get_or-append}
-use Rattle.std.proofs.Math.Seq.{get_or-append_seam}
+use Rattle.pf_base.proofs.ListLemmas.{none_in, get_push}
 use Rattle.pf_residual.specs.Networks.{Network}
 use Rattle.pf_residual.specs.Internal.Levels.{AreLevels, IsTreePath, IsAdmissiblePath}
 use Rattle.pf_residual.specs.Internal.CurrentArcs.{AreArcs, IsSinkPath, IsPartialPath, arcs_left, work_left}
@@ -12,15 +11,15 @@ use Rattle.pf_residual.proofs.LevelLemmas.{count_less}
 use Rattle.pf_residual.proofs.PathLemmas.{only_source, path_of_tree}
 
 -- no arc from any vertex
-pub no_arcs : {n : ℕ} {targets places ends : List ℕ} → targets ≡ [] → places ≡ replicate n 0 → ends ≡ replicate n 0 → AreArcs n targets places ends
+pub no_arcs : {n : ℕ} {targets : List (ℕ × ℕ)} {places ends : List ℕ} → targets ≡ [] → places ≡ replicate n 0 → ends ≡ replicate n 0 → AreArcs n targets places ends
 no_arcs {n} {targets} {places} {ends} t p e = record {
   places_len = ap length p ∙ length-replicate n 0;
   ends_len = ap length e ∙ length-replicate n 0;
-  inside = λ k h. absurd (let l = ap length t in omega (arith, h, l));
+  inside = λ k arc h. absurd (none_in k arc (subst (λ (xs : List (ℕ × ℕ)). slice_get xs k ≡ Some arc) t h));
   within = λ a h. let z : slice_index ends a ≡ 0 = ap (λ xs. slice_index xs a) e ∙ get_or-replicate n a 0 0 h in omega (arith, z);
 }
 
-module _ {n : ℕ} {targets places ends : List ℕ} (w : AreArcs n targets places ends) where
+module _ {n : ℕ} {targets : List (ℕ × ℕ)} {places ends : List ℕ} (w : AreArcs n targets places ends) where
   -- the first place of a vertex is another
   pub placed : (from place : ℕ) → AreArcs n targets (slice_set places from place) ends
   placed from place = record {
@@ -31,18 +30,15 @@ module _ {n : ℕ} {targets places ends : List ℕ} (w : AreArcs n targets place
   }
 
   -- a target more
-  pub targeted : (to : ℕ) → to < n → AreArcs n (targets ++ to ∷ []) places ends
-  targeted to i = record {
+  pub targeted : (arc : ℕ × ℕ) → arc.0 < n → AreArcs n (targets ++ arc ∷ []) places ends
+  targeted arc i = record {
     places_len = w.places_len;
     ends_len = w.ends_len;
-    inside = λ k h. elim (cases_eq k (length targets)) as (λ _. slice_index (targets ++ to ∷ []) k < n) [
-      | inl e ↦ subst (λ v. v < n) (sym (ap (slice_index (targets ++ to ∷ [])) e ∙ get_or-append_seam targets to [] 0)) i
-      | inr e ↦ (let l : k < length targets = (let m = len_more in omega (arith, h, e, m)) in subst (λ v. v < n) (sym (get_or-append targets (to ∷ []) 0 k l)) (w.inside k l))
-    ];
+    inside = λ k x h. elim (get_push targets arc k x h) as (λ _. x.0 < n) [ inl e ↦ w.inside k x e | inr e ↦ subst (λ (y : ℕ × ℕ). y.0 < n) e.1 i ];
     within = λ a h. let b = w.within a h in let m = len_more in omega (arith, b, m);
   }
     where
-      len_more : length (targets ++ to ∷ []) ≡ suc (length targets)
+      len_more : length (targets ++ arc ∷ []) ≡ suc (length targets)
       len_more = grind (arith, length-append)
 
   -- the end of the row of a vertex is another
@@ -64,7 +60,7 @@ module _ {n : ℕ} {targets places ends : List ℕ} (w : AreArcs n targets place
       (λ a h e. ap (λ p. slice_index ends a - p) (get_or-set_other places from a (slice_index places from + 1) 0 e))
 
 -- the search begins at the source
-pub path_begun : {N : Network} {levels targets places ends : List ℕ} (path : List ℕ) → N.source < N.vertices → slice_index levels N.source ≡ 0 → 0 < slice_index levels N.sink → slice_index levels N.sink < N.vertices → length levels ≡ N.vertices → length path ≡ N.vertices → AreArcs N.vertices targets places ends → IsPartialPath N levels targets places ends (slice_set path 0 N.source) 0
+pub path_begun : {N : Network} {levels : List ℕ} {targets : List (ℕ × ℕ)} {places ends : List ℕ} (path : List ℕ) → N.source < N.vertices → slice_index levels N.source ≡ 0 → 0 < slice_index levels N.sink → slice_index levels N.sink < N.vertices → length levels ≡ N.vertices → length path ≡ N.vertices → AreArcs N.vertices targets places ends → IsPartialPath N levels targets places ends (slice_set path 0 N.source) 0
 path_begun {N} {levels} {targets} {places} {ends} path s z a r l m w = record {
   admissible = record {
     first = first;
@@ -90,7 +86,7 @@ path_begun {N} {levels} {targets} {places} {ends} path s z a r l m w = record {
     at : (k : ℕ) → k ≤ 0 → slice_index (slice_set path 0 N.source) k ≡ N.source
     at k h = ap (slice_index (slice_set path 0 N.source)) (zero_of k h) ∙ first
 
-module _ {N : Network} {levels targets places ends path : List ℕ} {depth : ℕ} (w : IsPartialPath N levels targets places ends path depth) where
+module _ {N : Network} {levels : List ℕ} {targets : List (ℕ × ℕ)} {places ends path : List ℕ} {depth : ℕ} (w : IsPartialPath N levels targets places ends path depth) where
   -- vertices at two places of the path are two
   apart : (j k : ℕ) → j ≤ depth → k ≤ depth → j ≢ k → slice_index path j ≢ slice_index path k
   apart j k h m n e = n (sym (w.admissible.level j h) ∙ ap (slice_index levels) e ∙ w.admissible.level k m)
@@ -125,7 +121,7 @@ module _ {N : Network} {levels targets places ends path : List ℕ} {depth : ℕ
         omega (arith, s, b, k, h, l)
 
     -- the same of the lists that are made so
-    module _ {after rows tops : List ℕ} (t : after ≡ targets) (p : rows ≡ slice_set places from (slice_index places from + 1)) (q : tops ≡ ends) where
+    module _ {after : List (ℕ × ℕ)} {rows tops : List ℕ} (t : after ≡ targets) (p : rows ≡ slice_set places from (slice_index places from + 1)) (q : tops ≡ ends) where
       pub path_passed : IsPartialPath N levels after rows tops path at
       path_passed =
           subst (λ xs. IsPartialPath N levels xs rows tops path at) (sym t)

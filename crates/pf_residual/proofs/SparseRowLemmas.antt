@@ -50,6 +50,15 @@ place_is (e ∷ es) b (suc p) l below from =
     let rest = place_is es b p (omega (arith, l)) (λ k d m. below (suc k) d (omega (arith, m))) (λ k d m n. from (suc k) d (omega (arith, m)) (omega (arith, n))) in
     rw (lt-ltb e.to b (below 0 e (omega arith))) (ap (λ n. suc n) rest)
 
+-- an edge that leads to b stands at the place of b
+pub stands : {C : Type 0} → (low : ℕ) (row : List (Edge C)) (b p : ℕ) (d : Edge C) → Rises low (ends row) → p < length row → (slice_index_or row p d).to ≡ b → p ≡ place_of (ends row) b
+stands low [] b p d r l e = absurd (omega (arith, l))
+stands low (x ∷ xs) b zero d r l e = rw (le-ltb x.to b (omega (arith, e))) refl
+stands low (x ∷ xs) b (suc p) d r l e =
+    let m : p < length xs = omega (arith, l) in
+    let h = above (suc x.to) xs p d r.1 m in
+    rw (lt-ltb x.to b (omega (arith, h, e))) (ap (λ n. suc n) (stands (suc x.to) xs b p d r.1 m e))
+
 -- where the last end is below b, the place of b is behind all
 pub past_last : {C : Type 0} → (row : List (Edge C)) (b : ℕ) (last : Edge C) → Rises 0 (ends row) → slice_get row (length row - 1) ≡ Some last → last.to < b → length row ≡ place_of (ends row) b
 past_last row b last r at less = place_is row b (length row) (omega arith) below (λ k d l m. absurd (omega (arith, l, m)))

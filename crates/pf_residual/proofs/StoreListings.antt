@@ -1,8 +1,9 @@
 -- Lists of vertices in rising order, vertex by vertex.
-use Rattle.std.proofs.Common.{◌≡◌, ◌∙◌, refl, sym, ap, subst, ◌<◌, ◌≤◌, ◌+◌, ℕ, ℤ, zero, suc, pos, arith, add-one, inl, inr, ◌⊎◌, Bool, true, false, List, [], ◌∷◌, ◌++◌, length, Some, nat_eq}
+use Rattle.std.proofs.Common.{◌≡◌, ◌∙◌, refl, sym, ap, subst, ◌<◌, ◌≤◌, ◌+◌, ℕ, ℤ, zero, suc, pos, arith, add-one, inl, inr, ◌⊎◌, Bool, true, false, List, [], ◌∷◌, ◌++◌, map, length, Some, nat_eq}
 use Rattle.std.specs.Prelude.{◌<ℤ◌, ◌≤ℤ◌, slice_get}
 use Rattle.std.proofs.lemmas.Int.{ints}
-use Rattle.std.proofs.lemmas.Option.{slice_get_within}
+use Rattle.std.proofs.lemmas.Option.{slice_get_within, slice_get-map}
+use Rattle.std.specs.Option.{option_map}
 use borrow.Author.Tests.{eqb-true, eqb-false}
 use Rattle.pf_residual.specs.Listings.{ListsVertices, ListsNumbers}
 use Rattle.pf_base.proofs.ListLemmas.{get_pushed}
@@ -130,3 +131,27 @@ vertices_same chosen k ends never h = vertices_passed chosen k (k + 1) ends (ome
 
 pub never_above : (z : ℤ) → z ≤ℤ pos 0 → pos 0 <ℤ z → ⊥
 never_above z l m = absurd (omega (arith, ints, l, m))
+
+-- the vertices of listed numbers
+pub vertices_of_numbers : {C : Type 0} (value : C → ℤ) (n : ℕ) (numbers : ℕ → ℤ) (ends : List (ℕ × C)) → ListsNumbers value n numbers ends → ListsVertices n (λ a. pos 0 <ℤ numbers a) (map (λ end. end.0) ends)
+vertices_of_numbers {C} value n numbers ends h = record {
+  rising = λ i j a b l p q.
+      let d = listed i a p in
+      let e = listed j b q in
+      let r = h.rising i j d.0 e.0 l d.1 e.1 in
+      omega (arith, r, d.2, e.2);
+  sound = λ i a p.
+      let d = listed i a p in
+      let s = h.sound i d.0 d.1 in
+      let inside = s.0 in
+      (omega (arith, inside, d.2), subst (λ a. pos 0 <ℤ numbers a) d.2 (subst (λ z. pos 0 <ℤ z) s.1 s.2));
+  complete = λ a l p. let s = h.complete a l p in (s.0, slice_get-map (λ end. end.0) ends s.0 ∙ ap (option_map (λ (end : ℕ × C). end.0)) s.2);
+}
+  where
+    from : {C : Type 0} (xs : List (ℕ × C)) (i a : ℕ) → slice_get (map (λ end. end.0) xs) i ≡ Some a → (end : ℕ × C) × (slice_get xs i ≡ Some end) × (end.0 ≡ a)
+    from [] i a p = get_none i a p
+    from (x ∷ xs) zero a p = (x, refl, cc)
+    from (x ∷ xs) (suc i) a p = from xs i a p
+
+    listed : (i a : ℕ) → slice_get (map (λ end. end.0) ends) i ≡ Some a → (end : ℕ × C) × (slice_get ends i ≡ Some end) × (end.0 ≡ a)
+    listed i a p = from ends i a p

@@ -11,8 +11,9 @@ use std::alloc::Allocator;
 /// that is not retired.
 #[derive(Drop)]
 pub struct CurrentArcs<A: Allocator> {
-    /// The heads of the arcs, in rows by the vertices that they leave.
-    pub targets: Vec<usize, A>,
+    /// The heads of the arcs, in rows by the vertices that they leave, and by which number the store
+    /// finds each of them.
+    pub targets: Vec<(usize, usize), A>,
     /// For each vertex the place of its current arc.
     pub places: Vec<usize, A>,
     /// For each vertex the place after its last arc.
@@ -43,16 +44,16 @@ impl<A: Allocator + Copy> CurrentArcs<A> {
     }
 
     /// The arcs from a vertex of a level are those to the vertices of the list that are above it.
-    pub fn add_row<C>(
+    pub fn add_row(
         &mut self,
         from: usize,
         level: usize,
-        list: &[(usize, C)],
+        list: &[(usize, usize)],
         levels: &[usize],
     ) -> Result<(), PathError>
         requires arcs { AreArcs (length levels.now) self.old.targets.items self.old.places.items self.old.ends.items }
         requires from { from < length levels.now }
-        requires inside { (k to : ℕ) (left : C) → slice_get list.now k ≡ Some (to, left) → to < length levels.now }
+        requires inside { (k : ℕ) (end : ℕ × ℕ) → slice_get list.now k ≡ Some end → end.0 < length levels.now }
         ensures arcs { OnOk result (AreArcs (length levels.now) self.new.targets.items self.new.places.items self.new.ends.items) }
         ensures refused { IfErr result (λ e. e ≡ OutOfMemory) }
     {
@@ -60,18 +61,19 @@ impl<A: Allocator + Copy> CurrentArcs<A> {
         for end in list {
             let to = end.0;
             if levels[to] > level {
-                self.targets.push(to)?;
+                self.targets.push(*end)?;
             }
         }
         self.ends[from] = self.targets.len();
         Ok(())
     }
 
-    /// The head of the current arc of a vertex, if an arc is left.
-    pub fn current_arc(&self, from: usize) -> Option<usize>
+    /// The head of the current arc of a vertex, and by which number the store finds it, if an arc is
+    /// left.
+    pub fn current_arc(&self, from: usize) -> Option<(usize, usize)>
         requires arcs { AreArcs (length self.now.places.items) self.now.targets.items self.now.places.items self.now.ends.items }
         requires from { from < length self.now.places.items }
-        ensures inside { IfSome result (λ to. to < length self.now.places.items) }
+        ensures inside { IfSome result (λ arc. arc.0 < length self.now.places.items) }
         ensures left { IfSome result (λ _. slice_index self.now.places.items from < slice_index self.now.ends.items from) }
     {
         let place = self.places[from];

@@ -12,17 +12,24 @@ use std::alloc::Allocator;
 
 /// Is an arc admissible: has it residual capacity, and does it lead to a vertex of this level, and to
 /// the sink where the sink is of this level?
-fn is_admissible<C, S>(store: &S, levels: &[usize], from: usize, to: usize, level: usize) -> bool
+fn is_admissible<C, S>(
+    store: &S,
+    levels: &[usize],
+    from: usize,
+    arc: (usize, usize),
+    level: usize,
+) -> bool
 where
     C: SignedCost,
     S: FlowStore<C>,
     requires levels_len { length levels.now ≡ (S.network store.now).vertices }
     requires from { from < (S.network store.now).vertices }
-    requires to { to < (S.network store.now).vertices }
-    ensures level { result ≡ true → slice_index levels.now to ≡ level }
-    ensures last { result ≡ true → level ≡ slice_index levels.now (S.network store.now).sink → to ≡ (S.network store.now).sink }
-    ensures left { result ≡ true → pos 0 <ℤ (S.network store.now).residual from to }
+    requires to { arc.0 < (S.network store.now).vertices }
+    ensures level { result ≡ true → slice_index levels.now arc.0 ≡ level }
+    ensures last { result ≡ true → level ≡ slice_index levels.now (S.network store.now).sink → arc.0 ≡ (S.network store.now).sink }
+    ensures left { result ≡ true → pos 0 <ℤ (S.network store.now).residual from arc.0 }
 {
+    let (to, place) = arc;
     let sink = store.sink();
     if levels[to] != level {
         return false;
@@ -30,7 +37,7 @@ where
     if level == levels[sink] && to != sink {
         return false;
     }
-    is_below(C::zero(), store.residual_capacity(from, to))
+    is_below(C::zero(), store.residual_capacity_near(from, to, place))
 }
 
 /// Advances over the current arc of the vertex at this depth of the path where it is admissible, and
@@ -41,6 +48,7 @@ fn advance_or_retreat<C, S, A>(
     levels: &[usize],
     arcs: &mut CurrentArcs<A>,
     path: &mut [usize],
+    places: &mut [usize],
     depth: usize,
 ) -> Option<usize>
 where
@@ -49,14 +57,15 @@ where
     A: Allocator + Copy,
     requires partial { IsPartialPath (S.network store.now) levels.now arcs.old.targets.items arcs.old.places.items arcs.old.ends.items path.old depth }
     requires below { depth < slice_index levels.now (S.network store.now).sink }
+    requires places_len { length places.old ≡ (S.network store.now).vertices }
     ensures partial { IfSome result (IsPartialPath (S.network store.now) levels.now arcs.new.targets.items arcs.new.places.items arcs.new.ends.items path.new) }
     ensures less { IfSome result (λ after. work_of (S.network store.now) levels.now arcs.new after < work_of (S.network store.now) levels.now arcs.old depth) }
     ensures arcs { AreArcs (S.network store.now).vertices arcs.new.targets.items arcs.new.places.items arcs.new.ends.items }
 {
     let from = path[depth];
-    if let Some(to) = arcs.current_arc(from) {
-        if is_admissible(store, levels, from, to, depth + 1) {
-            path[depth + 1] = to;
+    if let Some(arc) = arcs.current_arc(from) {
+        if is_admissible(store, levels, from, arc, depth + 1) {
+            (path[depth + 1], places[depth + 1]) = arc;
             return Some(depth + 1);
         }
         arcs.retire_arc(from);
@@ -70,12 +79,13 @@ where
 }
 
 /// Is there an augmenting path over arcs that are left? It is written to the path, each vertex at the
-/// place of its level.
+/// place of its level, and at the same place the number by which the store finds the arc to it.
 pub fn find_augmenting_path<C, S, A>(
     store: &S,
     levels: &[usize],
     arcs: &mut CurrentArcs<A>,
     path: &mut [usize],
+    places: &mut [usize],
 ) -> bool
 where
     C: SignedCost,
@@ -86,6 +96,7 @@ where
     requires reached { slice_index levels.now (S.network store.now).sink < (S.network store.now).vertices }
     requires levels_len { length levels.now ≡ (S.network store.now).vertices }
     requires path_len { length path.old ≡ (S.network store.now).vertices }
+    requires places_len { length places.old ≡ (S.network store.now).vertices }
     requires arcs { AreArcs (S.network store.now).vertices arcs.old.targets.items arcs.old.places.items arcs.old.ends.items }
     ensures admissible { result ≡ true → IsSinkPath (S.network store.now) (slice_index levels.now) path.new }
     ensures arcs { AreArcs (S.network store.now).vertices arcs.new.targets.items arcs.new.places.items arcs.new.ends.items }
@@ -94,7 +105,7 @@ where
     path[0] = store.source();
     let mut depth = 0;
     'moves: while depth < top {
-        let Some(after) = advance_or_retreat(store, levels, arcs, path, depth) else {
+        let Some(after) = advance_or_retreat(store, levels, arcs, path, places, depth) else {
             return false;
         };
         depth = after;

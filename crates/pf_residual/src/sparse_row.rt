@@ -1,6 +1,6 @@
 //! The edges of one vertex, sorted by the other end.
 
-ghost use Rattle.std.specs.Prelude.{pos, ◌<ℤ◌, neg_ℤ, ◌≡◌, ◌≤◌, ◌<◌, ◌+ℤ◌, ◌-ℤ◌, ℕ, List, [], true, false, length, if◌then◌else◌, IfSome, IfNone, IfErr, OnErr, OnOk, IfOk};
+ghost use Rattle.std.specs.Prelude.{pos, map, ◌<ℤ◌, neg_ℤ, ◌≡◌, ◌≤◌, ◌<◌, ◌+ℤ◌, ◌-ℤ◌, ℕ, List, [], true, false, length, if◌then◌else◌, IfSome, IfNone, IfErr, OnErr, OnOk, IfOk};
 ghost use Rattle.std.specs.List.{HoldsAt};
 ghost use Rattle.pf_residual.specs.SparseRows.{ends, has_end, amount_to};
 ghost use Rattle.pf_residual.specs.Internal.RowChanges.{Rises, place_of, IsRowChanged, with_edge, without_edge, AreBelow};
@@ -62,6 +62,15 @@ impl<C, A: Allocator> Row<C, A> {
             edges: Vec::new(alloc),
         }
     }
+
+    /// A row without edges, with room for so many. The only error is `OutOfMemory`.
+    pub fn with_room(alloc: A, count: usize) -> Result<Self, PathError>
+        ensures empty { IfOk result (λ row. row ≡ []) }
+        ensures refused { IfErr result (λ e. e ≡ OutOfMemory) }
+    {
+        let edges = Vec::with_capacity(alloc, count)?;
+        Ok(Row { edges })
+    }
 }
 
 /// How many edges lead to vertices below `to`.
@@ -95,6 +104,22 @@ fn find<C>(row: &[Edge<C>], to: usize) -> Option<usize>
     }
 }
 
+/// The same as `find`, for an edge that is likely to stand at a place.
+fn find_near<C>(row: &[Edge<C>], to: usize, near: usize) -> Option<usize>
+    requires { Rises 0 (ends row.now) }
+    ensures place { IfSome result (λ p. p ≡ place_of (ends row.now) to) }
+    ensures bound { IfSome result (λ p. p < length row.now) }
+    ensures leads { IfSome result (λ p. HoldsAt (λ e. e.to ≡ to) row.now p) }
+    ensures found { IfSome result (λ _. has_end (ends row.now) to ≡ true) }
+    ensures none { IfNone result (has_end (ends row.now) to ≡ false) }
+{
+    if near < row.len() && row[near].to == to {
+        Some(near)
+    } else {
+        find(row, to)
+    }
+}
+
 impl<C: SignedCost, A: Allocator> Row<C, A> {
     /// Whether there is an edge to a vertex.
     pub fn has(&self, to: usize) -> bool
@@ -104,12 +129,13 @@ impl<C: SignedCost, A: Allocator> Row<C, A> {
         find(self.edges.as_slice(), to).is_some()
     }
 
-    /// The residual capacity of the edge to a vertex, or 0 where there is none.
-    pub fn residual(&self, to: usize) -> C
+    /// The residual capacity of the edge to a vertex, or 0 where there is none. The edge is likely to
+    /// stand at a place.
+    pub fn residual(&self, to: usize, near: usize) -> C
         requires { Rises 0 (ends self.now) }
         ensures { C.value result ≡ amount_to (λ e. C.value e.residual) self.now to }
     {
-        match find(self.edges.as_slice(), to) {
+        match find_near(self.edges.as_slice(), to, near) {
             Some(place) => self.edges[place].residual,
             None => C::zero(),
         }
@@ -144,15 +170,16 @@ impl<C: SignedCost, A: Allocator> Row<C, A> {
         };
     }
 
-    /// Adds to the flow of the edge to a vertex, and takes as much from its residual capacity.
-    pub fn carry(&mut self, to: usize, amount: C)
+    /// Adds to the flow of the edge to a vertex, and takes as much from its residual capacity. The edge
+    /// is likely to stand at a place.
+    pub fn carry(&mut self, to: usize, near: usize, amount: C)
         requires rises { Rises 0 (ends self.old) }
         requires edge { has_end (ends self.old) to ≡ true }
         requires residual { C.fits (amount_to (λ e. C.value e.residual) self.old to -ℤ C.value amount) }
         requires flow { C.fits (amount_to (λ e. C.value e.flow) self.old to +ℤ C.value amount) }
         ensures { IsRowChanged C.value to (neg_ℤ (C.value amount)) (C.value amount) self.old self.new }
     {
-        let Some(place) = find(self.edges.as_slice(), to) else {
+        let Some(place) = find_near(self.edges.as_slice(), to, near) else {
             unreachable!()
         };
         let Edge { residual, flow, .. } = self.edges[place];
@@ -238,6 +265,25 @@ pub fn residual_ends<C: SignedCost, A: Allocator>(
         }
     }
     Ok(list)
+}
+
+/// Lists the ends to which there is residual capacity above 0, by rising end, each with its place, in
+/// the place of what was listed before. The only error is `OutOfMemory`.
+pub fn list_residual_ends<C: SignedCost, A: Allocator>(
+    row: &[Edge<C>],
+    list: &mut Vec<(usize, usize), A>,
+) -> Result<(), PathError>
+    requires { Rises 0 (ends row.now) }
+    ensures listed { OnOk result ((n : ℕ) → AreBelow n row.now → ListsVertices n (λ to. pos 0 <ℤ amount_to (λ e. C.value e.residual) row.now to) (map (λ end. end.0) list.new.items)) }
+    ensures refused { IfErr result (λ e. e ≡ OutOfMemory) }
+{
+    list.clear();
+    for (place, edge) in row.iter().enumerate() {
+        if is_below(C::zero(), edge.residual) {
+            list.push((edge.to, place))?;
+        }
+    }
+    Ok(())
 }
 
 /// The ends to which there is flow above 0, by rising end. The only error is `OutOfMemory`.

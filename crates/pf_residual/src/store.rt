@@ -1,6 +1,6 @@
 //! What a store of flows has to offer.
 
-ghost use Rattle.std.specs.Prelude.{◌≡◌, ◌≢◌, ◌<◌, ◌+ℤ◌, ◌-ℤ◌, pos, ◌<ℤ◌, true, OnOk, IfOk, IfErr, IfSome};
+ghost use Rattle.std.specs.Prelude.{◌≡◌, ◌≢◌, map, ◌<◌, ◌+ℤ◌, ◌-ℤ◌, pos, ◌<ℤ◌, true, OnOk, IfOk, IfErr, IfSome};
 ghost use Rattle.pf_base.specs.declared.error.PathError.TheVariants.{OutOfMemory};
 ghost use Rattle.pf_residual.specs.Flows.{pair_sum};
 ghost use Rattle.pf_residual.specs.Networks.{Network, IsStored, Agrees, with_flow, with_residual, with_total, without_details};
@@ -55,6 +55,37 @@ pub trait FlowStore<C: SignedCost>: Sized + Drop {
         ensures listed { IfOk result (λ ends. ListsNumbers C.value (network self.now).vertices ((network self.now).residual from) ends.items) }
         ensures refused { IfErr result (λ e. e ≡ OutOfMemory) };
 
+    /// Lists the vertices to which a vertex has residual capacity above zero, in rising order, in the
+    /// place of what was listed before. Beside each stands a number by which the store finds the pair
+    /// again: where to look first.
+    ///
+    /// A store need not look anywhere first: then the list is that of `residual_successors`.
+    fn list_residual<A: Allocator + Copy>(
+        &self,
+        from: usize,
+        ends: &mut Vec<(usize, usize), A>,
+    ) -> Result<(), PathError>
+        requires { from < (network self.now).vertices }
+        ensures listed { OnOk result (ListsVertices (network self.now).vertices (λ to. pos 0 <ℤ (network self.now).residual from to) (map (λ end. end.0) ends.new.items)) }
+        ensures refused { IfErr result (λ e. e ≡ OutOfMemory) }
+    {
+        ends.clear();
+        let successors = self.residual_successors(*ends.allocator(), from)?;
+        for successor in &successors {
+            ends.push((successor.0, 0))?;
+        }
+        Ok(())
+    }
+
+    /// The same as `residual_capacity`, for a pair that is likely to be found by this number.
+    fn residual_capacity_near(&self, from: usize, to: usize, _place: usize) -> C
+        requires from { from < (network self.now).vertices }
+        requires to { to < (network self.now).vertices }
+        ensures { C.value result ≡ (network self.now).residual from to }
+    {
+        self.residual_capacity(from, to)
+    }
+
     /// The vertices to which there is flow above zero from a vertex, in rising order.
     fn flows_from<A: Allocator + Copy>(
         &self,
@@ -99,6 +130,19 @@ pub trait FlowStore<C: SignedCost>: Sized + Drop {
         requires residual { C.fits ((network self.old).residual from to -ℤ C.value amount) }
         requires residual_back { C.fits ((network self.old).residual to from +ℤ C.value amount) }
         ensures { Agrees (with_flow from to (C.value amount) (network self.old)) (network self.new) };
+
+    /// The same as `add_flow`, for a pair that is likely to be found by this number.
+    fn add_flow_near(&mut self, from: usize, to: usize, _place: usize, amount: C)
+        requires room { (network self.old).room from to ≡ true }
+        requires apart { from ≢ to }
+        requires flow { C.fits ((network self.old).flow from to +ℤ C.value amount) }
+        requires flow_back { C.fits ((network self.old).flow to from -ℤ C.value amount) }
+        requires residual { C.fits ((network self.old).residual from to -ℤ C.value amount) }
+        requires residual_back { C.fits ((network self.old).residual to from +ℤ C.value amount) }
+        ensures { Agrees (with_flow from to (C.value amount) (network self.old)) (network self.new) }
+    {
+        self.add_flow(from, to, amount);
+    }
 
     /// Adds to the residual capacity from one vertex to another.
     fn add_residual_capacity(&mut self, from: usize, to: usize, amount: C)

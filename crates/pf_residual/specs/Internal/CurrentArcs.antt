@@ -1,15 +1,15 @@
 -- Arcs between vertices, and the search by depth first for a path over them.
-use Rattle.std.specs.Prelude.{◌≡◌, ◌≤◌, ◌<◌, ◌+◌, ◌-◌, ◌*◌, ℕ, List, length, slice_index}
+use Rattle.std.specs.Prelude.{◌≡◌, ◌≤◌, ◌<◌, ◌+◌, ◌-◌, ◌*◌, ℕ, List, Some, length, slice_get, slice_index}
 use Rattle.pf_residual.specs.Flows.{count_to}
 use Rattle.pf_residual.specs.Networks.{Network}
 use Rattle.pf_residual.specs.Internal.Levels.{IsAdmissiblePath}
 use Rattle.pf_residual.specs.declared.current_arcs.CurrentArcs.{CurrentArcs}
 
--- arcs between n vertices: those of the vertex a are the targets from place a on to end a
-pub record AreArcs (n : ℕ) (targets places ends : List ℕ) : Type 0 where
+-- arcs between n vertices: those of the vertex a are the targets from place a on to end a, each with a number by which a store finds it
+pub record AreArcs (n : ℕ) (targets : List (ℕ × ℕ)) (places ends : List ℕ) : Type 0 where
   pub places_len : length places ≡ n
   pub ends_len : length ends ≡ n
-  pub inside : (k : ℕ) → k < length targets → slice_index targets k < n
+  pub inside : (k : ℕ) (arc : ℕ × ℕ) → slice_get targets k ≡ Some arc → arc.0 < n
   pub within : (a : ℕ) → a < n → slice_index ends a ≤ length targets
 
 -- how many arcs of n vertices are left
@@ -22,7 +22,7 @@ pub record IsSinkPath (N : Network) (d : ℕ → ℕ) (path : List ℕ) : Type 0
   pub last : slice_index path (d N.sink) ≡ N.sink
 
 -- a search for a path to the sink: the path so far, whose vertices before the last have an arc left
-pub record IsPartialPath (N : Network) (levels targets places ends path : List ℕ) (depth : ℕ) : Type 0 where
+pub record IsPartialPath (N : Network) (levels : List ℕ) (targets : List (ℕ × ℕ)) (places ends path : List ℕ) (depth : ℕ) : Type 0 where
   pub admissible : IsAdmissiblePath N (slice_index levels) path depth
   pub arcs : AreArcs N.vertices targets places ends
   pub ahead : (k : ℕ) → k < depth → slice_index places (slice_index path k) < slice_index ends (slice_index path k)

@@ -46,11 +46,16 @@ phases-preserved g c =
     let auto = c.augment_phase.auto.path in
     let len = ap length c.deref_mut.ensures.value in
     let owned = c.phases.path.ok.0 in
+    let places_wide = i.places_len in
+    let places_auto = c.augment_phase.auto.places in
+    let places_len = ap length c.deref_mut-in-phases.ensures.value in
+    let places_owned = c.phases.places.ok.0 in
     record {
       network = c.augment_phase.ensures.network;
       kept = capacities_more i.kept p.kept;
       found = found;
       path_len = kept_len c.phases.path.len (g.S.FlowStore.network c.augment_phase.new.store).vertices c.augment_phase.new.path c.phases.path.items (omega (arith, auto, len, wide, shape)) (omega (arith, wide, shape)) (omega (arith, wide, shape, owned));
+      places_len = kept_len c.phases.places.len (g.S.FlowStore.network c.augment_phase.new.store).vertices c.augment_phase.new.places c.phases.places.items (omega (arith, places_auto, places_len, places_wide, shape)) (omega (arith, places_wide, shape)) (omega (arith, places_wide, shape, places_owned));
       ticked = after _ _ _ i.ticked p.progress;
       bound = ticks_anew i.kept c.args.tally.now i.bound p found.levels;
     }
@@ -61,6 +66,7 @@ phases-init g c = record {
   kept = capacities_kept (g.S.FlowStore.network c.args.store.now);
   found = c.in_ok-find.ensures.found;
   path_len = ap length (resized c.size-size.result c.new-path.result.items c.resize.new.self.items _ 0 c.new-path.ensures.items c.new-path.ensures.len c.in_ok-resize.ensures.items) ∙ length-replicate c.size-size.result 0 ∙ c.size-size.ensures;
+  places_len = ap length (resized c.size-size.result c.new-places.result.items c.resize-2.new.self.items _ 0 c.new-places.ensures.items c.new-places.ensures.len c.in_ok-resize-2.ensures.items) ∙ length-replicate c.size-size.result 0 ∙ c.size-size.ensures;
   ticked = itself _;
   bound = no_less _ _;
 }
@@ -91,6 +97,16 @@ returns-in_err-resize g c = record {
   paths = no_less _ _;
 }
 
+pub returns-in_err-resize-2 : goal.returns-in_err-resize-2
+returns-in_err-resize-2 g c = record {
+  network = c.requires.network;
+  kept = capacities_kept (g.S.FlowStore.network c.args.store.now);
+  cut_off = IfOk-from_err _ _ c.from_residual-in_err-resize-2.ensures.0;
+  refused = refused_by _ c.from_residual-in_err-resize-2.result c.from_residual-in_err-resize-2.ensures.1;
+  ticked = itself _;
+  paths = no_less _ _;
+}
+
 pub augment_phase-requires : goal.augment_phase-requires
 augment_phase-requires g c =
     let i = c.phases.invariant in
@@ -105,6 +121,7 @@ augment_phase-requires g c =
       found = i.found;
       reached = below_size _ _ _ _ _ read c.phases-test.true c.size-size.ensures i.kept.shape.vertices;
       path_len = ap length c.deref_mut.ensures.value ∙ i.path_len;
+      places_len = ap length c.deref_mut-in-phases.ensures.value ∙ i.places_len;
     }
 
 pub returns : goal.returns

@@ -12,6 +12,7 @@ invariant-phases g l = record {
   kept : KeepsCapacities (g.S.FlowStore.network l.fn.store) (g.S.FlowStore.network l.store);
   found : HoldsLevels (g.S.FlowStore.network l.store) l.found;
   path_len : length l.path.items ≡ (g.S.FlowStore.network l.store).vertices;
+  places_len : length l.places.items ≡ (g.S.FlowStore.network l.store).vertices;
   ticked : l.fn.tally ≤ l.tally;
   bound : l.tally ≤ l.fn.tally + potential_in (g.S.FlowStore.network l.fn.store) (g.S.FlowStore.network l.store) (slice_index l.found.levels.items);
 }

@@ -48,6 +48,7 @@ augment_path-requires g c =
       labelling = subst (λ (xs : List ℕ). IsLabelling N.vertices N.source N.residual (slice_index xs)) k f.levels.labelling;
       levels_len = ap length c.deref.ensures.value ∙ f.levels_len;
       path_len = omega (arith, c.write_path.auto.path, c.requires.path_len);
+      places_len = c.requires.places_len;
       reached = subst (λ (xs : List ℕ). slice_index xs N.sink < N.vertices) k r.reached;
     }
 
@@ -75,6 +76,7 @@ find_augmenting_path-requires g c =
       reached = subst (λ (xs : List ℕ). slice_index xs M.sink < M.vertices) (sym k) (still_below _ _ _ _ c.requires.reached (ap (slice_index levels) shape.sink) shape.vertices);
       levels_len = ap length k ∙ f.levels_len ∙ sym shape.vertices;
       path_len = omega (arith, c.paths.auto.path, c.write_path.auto.path, c.requires.path_len, c.paths.invariant.augmented.kept.shape.vertices);
+      places_len = omega (arith, c.paths.auto.places, c.requires.places_len, c.paths.invariant.augmented.kept.shape.vertices);
       arcs = subst (λ n. AreArcs n arcs.targets.items arcs.places.items arcs.ends.items) (sym shape.vertices) i.arcs;
     }
 
@@ -92,6 +94,7 @@ augment_path-requires-in-paths g c =
       labelling = subst (λ (xs : List ℕ). IsLabelling M.vertices M.source M.residual (slice_index xs)) (sym k) (labelling_same i.augmented.kept i.augmented.labelling);
       levels_len = ap length k ∙ c.requires.found.levels_len ∙ sym shape.vertices;
       path_len = omega (arith, c.find_augmenting_path.auto.path, c.paths.auto.path, c.write_path.auto.path, c.requires.path_len, c.paths.invariant.augmented.kept.shape.vertices);
+      places_len = omega (arith, c.find_augmenting_path.auto.places, c.paths.auto.places, c.requires.places_len, c.paths.invariant.augmented.kept.shape.vertices);
       reached = subst (λ (xs : List ℕ). slice_index xs M.sink < M.vertices) (sym k) (still_below _ _ _ _ c.requires.reached (ap (slice_index levels) shape.sink) shape.vertices);
     }
 

@@ -12,7 +12,7 @@ returns-then-is_admissible g c = record {
       let q = c.if-is_admissible.true in
       let i = c.in-Some.ensures.inside in
       let l = r.partial.arcs.places_len in
-      path_advanced r.partial c.in-Some.to (omega (arith, i, l)) r.below (e.level q) (e.left q) (e.last q) c.in-Some.ensures.left;
+      path_advanced r.partial c.in-Some.arc.0 (omega (arith, i, l)) r.below (e.level q) (e.left q) (e.last q) c.in-Some.ensures.left;
   less = let b = c.requires.below in omega (arith, b);
   arcs = c.requires.partial.arcs;
 }

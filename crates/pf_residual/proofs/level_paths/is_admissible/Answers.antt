@@ -17,8 +17,8 @@ offset_bounds-levels-sink g c =
     let inside = (g.met.S.FlowStore.network_law c.args.store.now).sink_in in
     omega (arith, inside, c.sink-sink.ensures, c.requires.levels_len)
 
-pub residual_capacity-requires-clause-from : goal.residual_capacity-requires-clause-from
-residual_capacity-requires-clause-from g c = c.requires.from
+pub residual_capacity_near-requires-clause-from : goal.residual_capacity_near-requires-clause-from
+residual_capacity_near-requires-clause-from g c = c.requires.from
 
-pub residual_capacity-requires-clause-to : goal.residual_capacity-requires-clause-to
-residual_capacity-requires-clause-to g c = c.requires.to
+pub residual_capacity_near-requires-clause-to : goal.residual_capacity_near-requires-clause-to
+residual_capacity_near-requires-clause-to g c = c.requires.to

@@ -18,8 +18,8 @@ has_room {N} s a b l = elim (bool_dec (N.room a b)) as (λ _. N.room a b ≡ tru
   | inr e ↦ absurd (let z = (s.empty a b e).0 in omega (arith, ints, l, z))
 ]
 
-pub add_flow-requires-clause-flow : goal.add_flow-requires-clause-flow
-add_flow-requires-clause-flow g c =
+pub add_flow_near-requires-clause-flow : goal.add_flow_near-requires-clause-flow
+add_flow_near-requires-clause-flow g c =
     let w = c.requires.path in
     let p = c.loop-place.invariant.pushed in
     let a = low w.left c.least_residual-amount.ensures.reached in
@@ -29,8 +29,8 @@ add_flow-requires-clause-flow g c =
     let l = c.least_residual-amount.ensures.least in
     move_fits_flow (λ x y z. g.C.Number.between_law x y z g.met.C.Integral.exact_law) g.met.C.SignedCost.negation_law p.balanced _ _ _ (step_here_in w b _ a l k next p) (step_next_in w b _ a l k next p) (step_apart w b _ a l k next) (omega (arith, ints, a)) (step_enough w b _ a l k next p)
 
-pub add_flow-requires-clause-flow_back : goal.add_flow-requires-clause-flow_back
-add_flow-requires-clause-flow_back g c =
+pub add_flow_near-requires-clause-flow_back : goal.add_flow_near-requires-clause-flow_back
+add_flow_near-requires-clause-flow_back g c =
     let w = c.requires.path in
     let p = c.loop-place.invariant.pushed in
     let a = low w.left c.least_residual-amount.ensures.reached in
@@ -40,8 +40,8 @@ add_flow-requires-clause-flow_back g c =
     let l = c.least_residual-amount.ensures.least in
     move_fits_flow_back (λ x y z. g.C.Number.between_law x y z g.met.C.Integral.exact_law) g.met.C.SignedCost.negation_law p.balanced _ _ _ (step_here_in w b _ a l k next p) (step_next_in w b _ a l k next p) (step_apart w b _ a l k next) (omega (arith, ints, a)) (step_enough w b _ a l k next p)
 
-pub add_flow-requires-clause-residual : goal.add_flow-requires-clause-residual
-add_flow-requires-clause-residual g c =
+pub add_flow_near-requires-clause-residual : goal.add_flow_near-requires-clause-residual
+add_flow_near-requires-clause-residual g c =
     let w = c.requires.path in
     let p = c.loop-place.invariant.pushed in
     let a = low w.left c.least_residual-amount.ensures.reached in
@@ -51,8 +51,8 @@ add_flow-requires-clause-residual g c =
     let l = c.least_residual-amount.ensures.least in
     move_fits_residual (λ x y z. g.C.Number.between_law x y z g.met.C.Integral.exact_law) g.met.C.SignedCost.negation_law p.balanced _ _ _ (step_here_in w b _ a l k next p) (step_next_in w b _ a l k next p) (step_apart w b _ a l k next) (omega (arith, ints, a)) (step_enough w b _ a l k next p)
 
-pub add_flow-requires-clause-residual_back : goal.add_flow-requires-clause-residual_back
-add_flow-requires-clause-residual_back g c =
+pub add_flow_near-requires-clause-residual_back : goal.add_flow_near-requires-clause-residual_back
+add_flow_near-requires-clause-residual_back g c =
     let w = c.requires.path in
     let p = c.loop-place.invariant.pushed in
     let a = low w.left c.least_residual-amount.ensures.reached in
@@ -72,9 +72,9 @@ loop-place-preserved g c =
     let b = balanced_of c.requires.network in
     let l = c.least_residual-amount.ensures.least in
     record {
-      pushed = pushed_agrees c.add_flow.ensures (pushed_step w b _ a l k next p);
-      levels = levels_agrees c.add_flow.ensures (levels_step w b _ a l k next p c.loop-place.invariant.levels);
-      room = λ x y h. c.add_flow.ensures.room x y (c.loop-place.invariant.room x y h);
+      pushed = pushed_agrees c.add_flow_near.ensures (pushed_step w b _ a l k next p);
+      levels = levels_agrees c.add_flow_near.ensures (levels_step w b _ a l k next p c.loop-place.invariant.levels);
+      room = λ x y h. c.add_flow_near.ensures.room x y (c.loop-place.invariant.room x y h);
     }
 
 pub plus-total-requires : goal.plus-total-requires
@@ -97,7 +97,7 @@ plus-total-requires g c =
     subst g.C.Number.fits e (fits_near (λ x y z. g.C.Number.between_law x y z g.met.C.Integral.exact_law) g.met.C.SignedCost.negation_law (capacity_sum M) (N.total +ℤ x) net.sum (omega (arith, ints, top, above)) top)
 
 pub least_residual-amount-requires : goal.least_residual-amount-requires
-least_residual-amount-requires g c = c.requires.path
+least_residual-amount-requires g c = record { path = c.requires.path; places_len = c.requires.places_len }
 
 pub loop-place-init : goal.loop-place-init
 loop-place-init g c =
@@ -107,8 +107,8 @@ loop-place-init g c =
     let l = c.least_residual-amount.ensures.least in
     record { pushed = pushed_none w b _ a l; levels = levels_none w b _ a l; room = λ x y h. h }
 
-pub add_flow-requires-clause-apart : goal.add_flow-requires-clause-apart
-add_flow-requires-clause-apart g c =
+pub add_flow_near-requires-clause-apart : goal.add_flow_near-requires-clause-apart
+add_flow_near-requires-clause-apart g c =
     let w = c.requires.path in
     let a = low w.left c.least_residual-amount.ensures.reached in
     let k = c.loop-place.place in
@@ -133,8 +133,8 @@ bounds-path-place-in-loop-place g c = omega arith
 pub offset_bounds-path-place-in-loop-place : goal.offset_bounds-path-place-in-loop-place
 offset_bounds-path-place-in-loop-place g c = omega arith
 
-pub add_flow-requires-clause-room : goal.add_flow-requires-clause-room
-add_flow-requires-clause-room g c =
+pub add_flow_near-requires-clause-room : goal.add_flow_near-requires-clause-room
+add_flow_near-requires-clause-room g c =
     let k = c.loop-place.place in
     c.loop-place.invariant.room _ _ (has_room (g.met.S.FlowStore.network_law c.args.store.now) _ _ (c.requires.path.left k (omega arith)))
 

@@ -38,32 +38,32 @@ loop-place-preserved g c =
     let r = λ (k : ℕ). (g.S.FlowStore.network c.args.store.now).residual (slice_index c.args.path.now k) (slice_index c.args.path.now (k + 1)) in
     let before : IsLeastTo r c.loop-place.place (g.C.Number.value c.loop-place.least) = (c.loop-place.invariant.least, c.loop-place.invariant.reached) in
     let after : IsLeastTo r (c.loop-place.place + 1) (g.C.Number.value c.if-is_below.least) = elim c.if-is_below.branch [
-      | then-is_below w ↦ (let k : g.C.Number.value c.residual_capacity-here.result <ℤ g.C.Number.value c.loop-place.least = w.if-is_below.ensures in
-          subst (λ x. IsLeastTo r (c.loop-place.place + 1) (g.C.Number.value x)) (sym w.least-is) (lower r c.loop-place.place (g.C.Number.value c.loop-place.least) (g.C.Number.value c.residual_capacity-here.result) before c.residual_capacity-here.ensures k))
-      | else-is_below w ↦ (let k : g.C.Number.value c.loop-place.least ≤ℤ g.C.Number.value c.residual_capacity-here.result = w.if-is_below.ensures in
-          subst (λ x. IsLeastTo r (c.loop-place.place + 1) (g.C.Number.value x)) (sym w.least-is) (not_lower r c.loop-place.place (g.C.Number.value c.loop-place.least) (g.C.Number.value c.residual_capacity-here.result) before c.residual_capacity-here.ensures k))
+      | then-is_below w ↦ (let k : g.C.Number.value c.residual_capacity_near-here.result <ℤ g.C.Number.value c.loop-place.least = w.if-is_below.ensures in
+          subst (λ x. IsLeastTo r (c.loop-place.place + 1) (g.C.Number.value x)) (sym w.least-is) (lower r c.loop-place.place (g.C.Number.value c.loop-place.least) (g.C.Number.value c.residual_capacity_near-here.result) before c.residual_capacity_near-here.ensures k))
+      | else-is_below w ↦ (let k : g.C.Number.value c.loop-place.least ≤ℤ g.C.Number.value c.residual_capacity_near-here.result = w.if-is_below.ensures in
+          subst (λ x. IsLeastTo r (c.loop-place.place + 1) (g.C.Number.value x)) (sym w.least-is) (not_lower r c.loop-place.place (g.C.Number.value c.loop-place.least) (g.C.Number.value c.residual_capacity_near-here.result) before c.residual_capacity_near-here.ensures k))
     ] in
     record { least = after.0; reached = after.1 }
 
 pub bounds-path-0 : goal.bounds-path-0
-bounds-path-0 g c = omega (arith, c.requires.long)
+bounds-path-0 g c = omega (arith, c.requires.path.long)
 
 pub bounds-path-1 : goal.bounds-path-1
-bounds-path-1 g c = omega (arith, c.requires.long)
+bounds-path-1 g c = omega (arith, c.requires.path.long)
 
-pub residual_capacity-least-requires-clause-from : goal.residual_capacity-least-requires-clause-from
-residual_capacity-least-requires-clause-from g c = c.requires.inside 0 (omega (arith, c.requires.long))
+pub residual_capacity_near-least-requires-clause-from : goal.residual_capacity_near-least-requires-clause-from
+residual_capacity_near-least-requires-clause-from g c = c.requires.path.inside 0 (omega (arith, c.requires.path.long))
 
-pub residual_capacity-least-requires-clause-to : goal.residual_capacity-least-requires-clause-to
-residual_capacity-least-requires-clause-to g c = c.requires.inside 1 (omega (arith, c.requires.long))
+pub residual_capacity_near-least-requires-clause-to : goal.residual_capacity_near-least-requires-clause-to
+residual_capacity_near-least-requires-clause-to g c = c.requires.path.inside 1 (omega (arith, c.requires.path.long))
 
 pub overflow_sub-place-end : goal.overflow_sub-place-end
-overflow_sub-place-end g c = omega (arith, c.requires.long)
+overflow_sub-place-end g c = omega (arith, c.requires.path.long)
 
 pub loop-place-init : goal.loop-place-init
 loop-place-init g c =
     let r = λ (k : ℕ). (g.S.FlowStore.network c.args.store.now).residual (slice_index c.args.path.now k) (slice_index c.args.path.now (k + 1)) in
-    let first : IsLeastTo r 1 (g.C.Number.value c.residual_capacity-least.result) = least_first r _ c.residual_capacity-least.ensures in
+    let first : IsLeastTo r 1 (g.C.Number.value c.residual_capacity_near-least.result) = least_first r _ c.residual_capacity_near-least.ensures in
     record { least = first.0; reached = first.1 }
 
 pub offset_bounds-path-place : goal.offset_bounds-path-place
@@ -81,20 +81,20 @@ offset_bounds-path-place-in-loop-place g c = omega (arith, c.loop-place-test.tru
 pub bounds-path-place-in-loop-place : goal.bounds-path-place-in-loop-place
 bounds-path-place-in-loop-place g c = omega (arith, c.loop-place-test.true)
 
-pub residual_capacity-here-requires-clause-from : goal.residual_capacity-here-requires-clause-from
-residual_capacity-here-requires-clause-from g c = c.requires.inside c.loop-place.place (omega (arith, c.loop-place-test.true))
+pub residual_capacity_near-here-requires-clause-from : goal.residual_capacity_near-here-requires-clause-from
+residual_capacity_near-here-requires-clause-from g c = c.requires.path.inside c.loop-place.place (omega (arith, c.loop-place-test.true))
 
-pub residual_capacity-here-requires-clause-to : goal.residual_capacity-here-requires-clause-to
-residual_capacity-here-requires-clause-to g c = c.requires.inside (c.loop-place.place + 1) (omega (arith, c.loop-place-test.true))
+pub residual_capacity_near-here-requires-clause-to : goal.residual_capacity_near-here-requires-clause-to
+residual_capacity_near-here-requires-clause-to g c = c.requires.path.inside (c.loop-place.place + 1) (omega (arith, c.loop-place-test.true))
 
 pub loop-place-smaller : goal.loop-place-smaller
 loop-place-smaller g c = omega (arith, c.loop-place-test.true)
 
 pub returns-clause-least : goal.returns-clause-least
-returns-clause-least g c = λ k m. c.loop-place.invariant.least k (omega (arith, m, c.requires.long, c.loop-place-test.false))
+returns-clause-least g c = λ k m. c.loop-place.invariant.least k (omega (arith, m, c.requires.path.long, c.loop-place-test.false))
 
 pub returns-clause-reached : goal.returns-clause-reached
 returns-clause-reached g c =
     let o = c.loop-place.invariant.reached in
     let l = o.1 in
-    (o.0, omega (arith, l, c.requires.long, c.loop-place.auto.place), o.2)
+    (o.0, omega (arith, l, c.requires.path.long, c.loop-place.auto.place), o.2)

@@ -1,32 +1,34 @@
-use Rattle.std.proofs.Common.{length-append, refl, ◌≡◌, ◌<◌, ◌≤◌, ◌+◌, ℕ, List, [], ◌∷◌, ◌++◌, inl, inr, ap, sym, subst, ◌∙◌, length, arith}
+use Rattle.std.proofs.Common.{length-append, refl, zero, suc, get_or, map, ◌≡◌, ◌<◌, ◌≤◌, ◌+◌, ℕ, List, [], ◌∷◌, ◌++◌, inl, inr, ap, sym, subst, ◌∙◌, length, arith}
 use Rattle.std.specs.Prelude.{slice_set, slice_get, slice_index, ◌<ℤ◌, pos, Option, Some, None}
 use Rattle.std.proofs.lemmas.Bool.{cases_eq}
 use Rattle.std.proofs.lemmas.List.{get_or_read}
-use Rattle.std.proofs.lemmas.Option.{slice_get_read, slice_get_within}
+use Rattle.std.proofs.lemmas.Option.{slice_get-get_or, slice_get-map, slice_get_within}
+use Rattle.std.specs.Option.{option_map}
 use Rattle.std.proofs.lemmas.Result.{IfOk-from_err}
 use Rattle.std.proofs.Math.ListN.{get_or-append}
 use Rattle.pf_residual.specs.Networks.{Network}
-use Rattle.pf_residual.specs.Listings.{ListsNumbers}
+use Rattle.pf_base.proofs.ListLemmas.{none_in}
+use Rattle.pf_residual.specs.Listings.{ListsVertices}
 use Rattle.pf_residual.specs.Internal.Levels.{HasFound, Reaches}
 use Rattle.pf_residual.specs.Internal.CurrentArcs.{AreArcs}
 use Rattle.pf_residual.proofs.LevelListLemmas.{found_more, found_next, known_level, to_reached, levels_kept, from_kept}
 use Rattle.pf_base.proofs.Outcomes.{on_any, on_ok, refused_as}
 use Rattle.pf_flow.proofs.levels.Levels.follow.Goals as goal
 
-module _ {C : Type 0} (N : Network) (at from level : ℕ) (ends : List (ℕ × C)) where
+module _ (N : Network) (at from level : ℕ) (ends : List (ℕ × ℕ)) where
   -- what the loop keeps
   abbrev Kept : ℕ → List ℕ → List ℕ → List ℕ → Type 0
   Kept k levels parents queue =
       HasFound N levels parents queue at × (at < length queue) × (slice_index queue at ≡ from) × (slice_index levels from ≡ level)
-      × ((i a : ℕ) (c : C) → i < k → slice_get ends i ≡ Some (a, c) → slice_index levels a ≤ level + 1)
+      × ((i : ℕ) (end : ℕ × ℕ) → i < k → slice_get ends i ≡ Some end → slice_index levels end.0 ≤ level + 1)
 
-  module _ (k to : ℕ) (c : C) (levels parents queue : List ℕ) (there : slice_get ends k ≡ Some (to, c)) where
-    abbrev first_of : Option (ℕ × C) → ℕ
+  module _ (k to place : ℕ) (levels parents queue : List ℕ) (there : slice_get ends k ≡ Some (to, place)) where
+    abbrev first_of : Option (ℕ × ℕ) → ℕ
     first_of None = 0
     first_of (Some e) = e.0
 
-    same_to : (a : ℕ) (c' : C) → slice_get ends k ≡ Some (a, c') → a ≡ to
-    same_to a c' e = ap first_of (sym e ∙ there)
+    same_to : (end : ℕ × ℕ) → slice_get ends k ≡ Some end → end.0 ≡ to
+    same_to end e = ap first_of (sym e ∙ there)
 
     -- an end that was reached before
     known : Kept k levels parents queue → slice_index levels to ≤ level + 1 → Kept (k + 1) levels parents queue
@@ -35,9 +37,9 @@ module _ {C : Type 0} (N : Network) (at from level : ℕ) (ends : List (ℕ × C
       w.1,
       w.2,
       w.3,
-      λ i a c' h e. elim (cases_eq i k) as (λ _. slice_index levels a ≤ level + 1) [
-        | inl f ↦ (let g = ap (slice_index levels) (same_to a c' (ap (slice_get ends) (sym f) ∙ e)) in omega (arith, g, l))
-        | inr f ↦ w.4 i a c' (omega (arith, h, f)) e
+      λ i end h e. elim (cases_eq i k) as (λ _. slice_index levels end.0 ≤ level + 1) [
+        | inl f ↦ (let g = ap (slice_index levels) (same_to end (ap (slice_get ends) (sym f) ∙ e)) in omega (arith, g, l))
+        | inr f ↦ w.4 i end (omega (arith, h, f)) e
       ],
     )
 
@@ -51,9 +53,9 @@ module _ {C : Type 0} (N : Network) (at from level : ℕ) (ends : List (ℕ × C
           more,
           get_or-append queue (to ∷ []) 0 at w.1 ∙ w.2,
           from_kept w.0 w.1 to i n left from level w.2 w.3,
-          λ j a c' h e. elim (cases_eq a to) as (λ _. slice_index (slice_set levels to (level + 1)) a ≤ level + 1) [
+          λ j end h e. elim (cases_eq end.0 to) as (λ _. slice_index (slice_set levels to (level + 1)) end.0 ≤ level + 1) [
             | inl f ↦ (let g = ap (slice_index (slice_set levels to (level + 1))) f in let o = to_reached w.0 w.1 to i n left from level w.2 w.3 in omega (arith, g, o))
-            | inr f ↦ (let g = kept a in let o = w.4 j a c' (elim (cases_eq j k) as (λ _. j < k) [ inl q ↦ absurd (f (same_to a c' (ap (slice_get ends) (sym q) ∙ e))) | inr q ↦ omega (arith, h, q) ]) e in omega (arith, g, o))
+            | inr f ↦ (let g = kept end.0 in let o = w.4 j end (elim (cases_eq j k) as (λ _. j < k) [ inl q ↦ absurd (f (same_to end (ap (slice_get ends) (sym q) ∙ e))) | inr q ↦ omega (arith, h, q) ]) e in omega (arith, g, o))
           ],
         )
 
@@ -72,18 +74,31 @@ module _ {C : Type 0} (N : Network) (at from level : ℕ) (ends : List (ℕ × C
               (subst (Kept (k + 1) levels parents) (sym q.2) (known w (known_level w.0 w.1 to from level i n w.2 w.3)))))
         ]
 
+-- what is listed
+module _ (N : Network) (from : ℕ) (ends : List (ℕ × ℕ)) (listed : ListsVertices N.vertices (λ to. pos 0 <ℤ N.residual from to) (map (λ end. end.0) ends)) where
+  end_in : (i : ℕ) (end : ℕ × ℕ) → slice_get ends i ≡ Some end → (end.0 < N.vertices) × (pos 0 <ℤ N.residual from end.0)
+  end_in i end h = listed.sound i end.0 (slice_get-map (λ end. end.0) ends i ∙ ap (option_map (λ (end : ℕ × ℕ). end.0)) h)
+
+  end_of : (b : ℕ) → b < N.vertices → pos 0 <ℤ N.residual from b → (i : ℕ) × (end : ℕ × ℕ) × (slice_get ends i ≡ Some end) × (end.0 ≡ b)
+  end_of b l r = let q = listed.complete b l r in let e = mapped_from ends q.0 b q.1 in (q.0, e.0, e.1, e.2)
+    where
+      mapped_from : (xs : List (ℕ × ℕ)) (i a : ℕ) → slice_get (map (λ end. end.0) xs) i ≡ Some a → (end : ℕ × ℕ) × (slice_get xs i ≡ Some end) × (end.0 ≡ a)
+      mapped_from [] i a h = absurd (none_in i a h)
+      mapped_from (x ∷ xs) zero a h = (x, refl, cc)
+      mapped_from (x ∷ xs) (suc i) a h = mapped_from xs i a h
+
 pub loop-end-preserved : goal.loop-end-preserved
 loop-end-preserved g c =
     let N = g.S.FlowStore.network c.args.store.now in
     let i = c.loop-end.invariant in
-    let ends = c.deref-end-items.result.now in
-    let there : slice_get ends c.loop-end.end-index ≡ Some c.end-item.result = slice_get_read ends (length ends) c.loop-end.end-index c.end-item.result refl c.loop-end-test.true c.end-item.is in
-    let listed : ListsNumbers g.C.Number.value N.vertices (N.residual c.index-from.result.now) c.in_ok-ends.ends.items = c.in_ok-ends.ensures.listed in
-    let s = listed.sound c.loop-end.end-index c.end-item.result (ap (λ xs. slice_get xs c.loop-end.end-index) (sym c.deref-end-items.ensures.value) ∙ there) in
+    let ends = c.as_slice-end-items.result.now in
+    let end = get_or ends c.loop-end.end-index (0, 0) in
+    let there : slice_get ends c.loop-end.end-index ≡ Some end = slice_get-get_or ends c.loop-end.end-index (0, 0) c.loop-end-test.true in
+    let s = end_in N c.index-from.result.now c.list_residual.new.ends.items c.in_ok-list_residual.ensures.listed c.loop-end.end-index end (ap (λ xs. slice_get xs c.loop-end.end-index) (sym c.as_slice-end-items.ensures.value) ∙ there) in
     let old = c.loop-end.self in
     let new = c.reach.new.self in
-    let after = met N c.args.at c.index-from.result.now c.index-level.result.now ends c.loop-end.end-index c.end-item.result.0 c.end-item.result.1 old.levels.items old.parents.items old.queue.items there
-    c.in_ok-reach.ensures.reached (i.found, i.more, i.from, i.level, i.followed) s.0 (subst (λ z. pos 0 <ℤ z) s.1 s.2) in
+    let after = met N c.args.at c.index-from.result.now c.index-level.result.now ends c.loop-end.end-index end.0 end.1 old.levels.items old.parents.items old.queue.items there
+    c.in_ok-reach.ensures.reached (i.found, i.more, i.from, i.level, i.followed) s.0 s.1 in
     record {
       found = after.0;
       more = after.1;
@@ -103,8 +118,8 @@ index-level-requires g c =
     let inside = subst (λ v. v < (g.S.FlowStore.network c.args.store.now).vertices) (sym from) (found.search.inside c.args.at c.requires.at) in
     omega (arith, inside, found.levels_len, c.args.self.now.levels.ok)
 
-pub residual_successors-requires : goal.residual_successors-requires
-residual_successors-requires g c =
+pub list_residual-requires : goal.list_residual-requires
+list_residual-requires g c =
     let found = c.requires.found in
     let from = get_or_read c.args.self.now.queue.items c.args.at c.index-from.result.now c.requires.at c.index-from.ensures 0 in
     let inside = subst (λ v. v < (g.S.FlowStore.network c.args.store.now).vertices) (sym from) (found.search.inside c.args.at c.requires.at) in
@@ -120,7 +135,7 @@ loop-end-init g c =
       more = c.requires.at;
       from = sym from;
       level = sym (get_or_read c.args.self.now.levels.items c.index-from.result.now c.index-level.result.now (omega (arith, inside, from, found.levels_len)) c.index-level.ensures 0);
-      followed = λ i a left l. absurd (omega (arith, l));
+      followed = λ i end l. absurd (omega (arith, l));
       arcs = c.requires.arcs;
     }
 
@@ -142,10 +157,10 @@ pub reach-requires-clause-to : goal.reach-requires-clause-to
 reach-requires-clause-to g c =
     let N = g.S.FlowStore.network c.args.store.now in
     let i = c.loop-end.invariant in
-    let ends = c.deref-end-items.result.now in
-    let there : slice_get ends c.loop-end.end-index ≡ Some c.end-item.result = slice_get_read ends (length ends) c.loop-end.end-index c.end-item.result refl c.loop-end-test.true c.end-item.is in
-    let listed : ListsNumbers g.C.Number.value N.vertices (N.residual c.index-from.result.now) c.in_ok-ends.ends.items = c.in_ok-ends.ensures.listed in
-    let s = listed.sound c.loop-end.end-index c.end-item.result (ap (λ xs. slice_get xs c.loop-end.end-index) (sym c.deref-end-items.ensures.value) ∙ there) in
+    let ends = c.as_slice-end-items.result.now in
+    let end = get_or ends c.loop-end.end-index (0, 0) in
+    let there : slice_get ends c.loop-end.end-index ≡ Some end = slice_get-get_or ends c.loop-end.end-index (0, 0) c.loop-end-test.true in
+    let s = end_in N c.index-from.result.now c.list_residual.new.ends.items c.in_ok-list_residual.ensures.listed c.loop-end.end-index end (ap (λ xs. slice_get xs c.loop-end.end-index) (sym c.as_slice-end-items.ensures.value) ∙ there) in
     let inside = s.0 in
     omega (arith, inside, i.found.levels_len)
 
@@ -156,23 +171,22 @@ pub add_row-requires-clause-arcs : goal.add_row-requires-clause-arcs
 add_row-requires-clause-arcs g c =
     let i = c.loop-end.invariant in
     let arcs = c.loop-end.self.arcs in
-    subst (λ n. AreArcs n arcs.targets.items arcs.places.items arcs.ends.items) (sym (ap length c.deref-2.ensures.value ∙ i.found.levels_len)) i.arcs
+    subst (λ n. AreArcs n arcs.targets.items arcs.places.items arcs.ends.items) (sym (ap length c.deref.ensures.value ∙ i.found.levels_len)) i.arcs
 
 pub add_row-requires-clause-from : goal.add_row-requires-clause-from
 add_row-requires-clause-from g c =
     let i = c.loop-end.invariant in
     let inside = i.found.search.inside c.args.at i.more in
-    omega (arith, inside, i.from, ap length c.deref-2.ensures.value, i.found.levels_len)
+    omega (arith, inside, i.from, ap length c.deref.ensures.value, i.found.levels_len)
 
 pub add_row-requires-clause-inside : goal.add_row-requires-clause-inside
 add_row-requires-clause-inside g c =
-    λ k to left h.
+    λ k end h.
     let N = g.S.FlowStore.network c.args.store.now in
-    let listed : ListsNumbers g.C.Number.value N.vertices (N.residual c.index-from.result.now) c.in_ok-ends.ends.items = c.in_ok-ends.ensures.listed in
-    let s = listed.sound k (to, left) (ap (λ xs. slice_get xs k) (sym c.deref.ensures.value) ∙ h) in
+    let s = end_in N c.index-from.result.now c.list_residual.new.ends.items c.in_ok-list_residual.ensures.listed k end (ap (λ xs. slice_get xs k) (sym c.as_slice.ensures.value) ∙ h) in
     let inside = s.0 in
     let wide = c.loop-end.invariant.found.levels_len in
-    let len = ap length c.deref-2.ensures.value in
+    let len = ap length c.deref.ensures.value in
     omega (arith, inside, wide, len)
 
 pub returns : goal.returns
@@ -180,24 +194,26 @@ returns g c = record {
   found =
       let N = g.S.FlowStore.network c.args.store.now in
       let i = c.loop-end.invariant in
-      let listed : ListsNumbers g.C.Number.value N.vertices (N.residual c.index-from.result.now) c.in_ok-ends.ends.items = c.in_ok-ends.ensures.listed in
+      let ends = c.as_slice-end-items.result.now in
       on_any c.add_row.result (found_next i.found i.more c.index-from.result.now c.index-level.result.now i.from i.level
-      (λ b l r. let q = listed.complete b l r in
-      let there : slice_get c.deref-end-items.result.now q.0 ≡ Some (b, q.1) = ap (λ xs. slice_get xs q.0) c.deref-end-items.ensures.value ∙ q.2 in
-      let inside = slice_get_within c.deref-end-items.result.now q.0 (b, q.1) there in
+      (λ b l r. let q = end_of N c.index-from.result.now c.list_residual.new.ends.items c.in_ok-list_residual.ensures.listed b l r in
+      let there : slice_get ends q.0 ≡ Some q.1 = ap (λ xs. slice_get xs q.0) c.as_slice-end-items.ensures.value ∙ q.2 in
+      let inside = slice_get_within ends q.0 q.1 there in
       let done = c.loop-end-test.false in
-      i.followed q.0 b q.1 (omega (arith, inside, done)) there));
+      let followed = i.followed q.0 q.1 (omega (arith, inside, done)) there in
+      let same = ap (slice_index c.loop-end.self.levels.items) q.3 in
+      omega (arith, followed, same)));
   arcs =
       let arcs = c.add_row.new.self in
-      on_ok c.add_row.result c.add_row.ensures.arcs (subst (λ n. AreArcs n arcs.targets.items arcs.places.items arcs.ends.items) (ap length c.deref-2.ensures.value ∙ c.loop-end.invariant.found.levels_len));
+      on_ok c.add_row.result c.add_row.ensures.arcs (subst (λ n. AreArcs n arcs.targets.items arcs.places.items arcs.ends.items) (ap length c.deref.ensures.value ∙ c.loop-end.invariant.found.levels_len));
   refused = c.add_row.ensures.refused;
 }
 
-pub returns-in_err-ends : goal.returns-in_err-ends
-returns-in_err-ends g c = record {
+pub returns-in_err-list_residual : goal.returns-in_err-list_residual
+returns-in_err-list_residual g c = record {
   found = IfOk-from_err _ _ c.from_residual.ensures.0;
   arcs = IfOk-from_err _ _ c.from_residual.ensures.0;
-  refused = refused_as _ c.from_residual.result _ c.from_residual.ensures.1 c.in_err-ends.ensures.refused;
+  refused = refused_as _ c.from_residual.result _ c.from_residual.ensures.1 c.in_err-list_residual.ensures.refused;
 }
 
 pub returns-in_err-reach : goal.returns-in_err-reach

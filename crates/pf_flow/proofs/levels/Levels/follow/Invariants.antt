@@ -11,6 +11,6 @@ invariant-loop-end g l = record {
   more : l.at < length l.self.queue.items;
   from : slice_index l.self.queue.items l.at ≡ l.from;
   level : slice_index l.self.levels.items l.from ≡ l.level;
-  followed : (i a : ℕ) (c : g.row.C.Denot) → i < l.end-index → slice_get l.end-items i ≡ Some (a, c) → slice_index l.self.levels.items a ≤ l.level + 1;
+  followed : (i : ℕ) (end : ℕ × ℕ) → i < l.end-index → slice_get l.end-items i ≡ Some end → slice_index l.self.levels.items end.0 ≤ l.level + 1;
   arcs : AreArcs (g.S.FlowStore.network l.store).vertices l.self.arcs.targets.items l.self.arcs.places.items l.self.arcs.ends.items;
 }

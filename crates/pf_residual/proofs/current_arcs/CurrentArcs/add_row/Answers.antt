@@ -1,5 +1,5 @@
-use Rattle.std.proofs.Common.{◌<◌, refl, sym, subst, length, arith, List, ℕ}
-use Rattle.std.proofs.lemmas.Option.{slice_get_read}
+use Rattle.std.proofs.Common.{sym, subst, length, get_or, arith, List, ℕ}
+use Rattle.std.proofs.lemmas.Option.{slice_get-get_or}
 use Rattle.pf_residual.specs.Internal.CurrentArcs.{AreArcs}
 use Rattle.pf_residual.proofs.ArcLemmas.{placed, targeted, ended}
 use Rattle.std.proofs.lemmas.Result.{IfOk-from_err}
@@ -10,12 +10,12 @@ use Rattle.pf_residual.proofs.current_arcs.CurrentArcs.add_row.Goals.{then-level
 pub loop-end-preserved : goal.loop-end-preserved
 loop-end-preserved g c =
     let n = length c.args.levels.now in
-    let to = c.end-item.result.0 in
-    let inside : to < n = c.requires.inside c.loop-end.end-index to c.end-item.result.1 (slice_get_read c.args.list.now (length c.args.list.now) c.loop-end.end-index c.end-item.result refl c.loop-end-test.true c.end-item.is) in
+    let end = get_or c.args.list.now c.loop-end.end-index (0, 0) in
+    let inside = c.requires.inside c.loop-end.end-index end (slice_get-get_or c.args.list.now c.loop-end.end-index (0, 0) c.loop-end-test.true) in
     elim c.if-levels-to.branch as (λ _. AreArcs n c.if-levels-to.self.targets.items c.if-levels-to.self.places.items c.if-levels-to.self.ends.items) [
       | then-levels-to+in_ok-push w ↦
           subst (λ s. AreArcs n s.targets.items s.places.items s.ends.items) (sym w.self-is)
-          (subst (λ (xs : List ℕ). AreArcs n xs c.loop-end.self.places.items c.loop-end.self.ends.items) (sym w.in_ok-push.ensures.items) (targeted c.loop-end.invariant to inside))
+          (subst (λ (xs : List (ℕ × ℕ)). AreArcs n xs c.loop-end.self.places.items c.loop-end.self.ends.items) (sym w.in_ok-push.ensures.items) (targeted c.loop-end.invariant end inside))
       | else-levels-to w ↦ subst (λ s. AreArcs n s.targets.items s.places.items s.ends.items) (sym w.self-is) c.loop-end.invariant
     ]
 
@@ -35,11 +35,12 @@ pub bounds-list-end-index : goal.bounds-list-end-index
 bounds-list-end-index g c = c.loop-end-test.true
 
 pub bounds-levels-to : goal.bounds-levels-to
-bounds-levels-to g c = c.requires.inside c.loop-end.end-index c.end-item.result.0 c.end-item.result.1 (slice_get_read c.args.list.now (length c.args.list.now) c.loop-end.end-index c.end-item.result refl c.loop-end-test.true c.end-item.is)
+bounds-levels-to g c = c.requires.inside c.loop-end.end-index (get_or c.args.list.now c.loop-end.end-index (0, 0)) (slice_get-get_or c.args.list.now c.loop-end.end-index (0, 0) c.loop-end-test.true)
 
 pub offset_bounds-levels-to : goal.offset_bounds-levels-to
 offset_bounds-levels-to g c =
-    let inside = c.requires.inside c.loop-end.end-index c.end-item.result.0 c.end-item.result.1 (slice_get_read c.args.list.now (length c.args.list.now) c.loop-end.end-index c.end-item.result refl c.loop-end-test.true c.end-item.is) in
+    let end = get_or c.args.list.now c.loop-end.end-index (0, 0) in
+    let inside = c.requires.inside c.loop-end.end-index end (slice_get-get_or c.args.list.now c.loop-end.end-index (0, 0) c.loop-end-test.true) in
     omega (arith, inside)
 
 pub loop-end-smaller : goal.loop-end-smaller

@@ -8,7 +8,7 @@ use Rattle.pf_residual.specs.SparseStores.{rows_flow}
 use Rattle.pf_residual.specs.Internal.SparseLaws.{has_row}
 use Rattle.pf_residual.proofs.OppositeLemmas.{opposite_carried}
 use Rattle.pf_residual.proofs.SparseStoreLemmas.{rows_kept, ends_set_at, flow_added}
-use Rattle.pf_flow.proofs.sparse_capacity.SparseCapacityFlowStore.add_flow.Goals as goal
+use Rattle.pf_flow.proofs.sparse_capacity.SparseCapacityFlowStore.add_flow_near.Goals as goal
 
 pub returns : goal.returns
 returns g c =
