@@ -152,8 +152,8 @@ pub fn cloned_upwards<C: Clone + Drop, A: Allocator>(
 }
 
 /// How many rows are cloned before they are exchanged with the columns above them, while a cache still
-/// has the rows.
-const BAND: usize = 16;
+/// has the rows: also where rows whose length is a power of two share its places.
+const BAND: usize = 8;
 
 /// Clones of the values of a square by columns, the first column first: each from the top, or from the
 /// bottom if `upwards`.
