@@ -16,6 +16,7 @@ pub mod NetworkPaths
 pub mod SpanningLemmas
 pub mod DecimalLemmas
 pub mod FlowNames
+pub mod EndRows
 pub mod FlowOrder
 pub mod FlowLemmas
 pub mod Outcomes

@@ -3,6 +3,7 @@ pub mod Fields
 pub mod Parsed
 pub mod Heads
 pub mod Links
+pub mod ByEnds
 pub mod NameTable
 pub mod Graph
 pub mod Numbers

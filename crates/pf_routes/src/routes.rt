@@ -1,6 +1,7 @@
 //! The program `routes` as a library: edges as text in, an answer as text out.
 
 mod answers;
+mod by_ends;
 mod bytes;
 mod command_line;
 mod commands;
