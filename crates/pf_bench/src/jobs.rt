@@ -16,7 +16,7 @@ mod tables;
 use crate::jobs::compact::CompactJob;
 use crate::jobs::costs::CostsJob;
 use crate::jobs::grid::{GridFloodJob, GridJob};
-use crate::jobs::network::{EdgesJob, FlowJob, repeat_components, repeat_cycle};
+use crate::jobs::network::{CycleJob, EdgesJob, FlowJob, repeat_components};
 use crate::jobs::orders::OrderJob;
 use crate::jobs::puzzle::PuzzleJob;
 use crate::jobs::rows::RowsJob;
@@ -41,7 +41,7 @@ pub enum Job {
     Edges(EdgesJob),
     Components,
     Flow(FlowJob),
-    Cycle,
+    Cycle(CycleJob),
     Puzzle(PuzzleJob),
 }
 
@@ -131,7 +131,8 @@ const JOBS: &[(&str, Job)] = &[
     ("components-groups", Job::Components),
     ("flow_dense-network", Job::Flow(FlowJob::Dense)),
     ("flow_sparse-layers", Job::Flow(FlowJob::Sparse)),
-    ("brent-step", Job::Cycle),
+    ("brent-step", Job::Cycle(CycleJob::Brent)),
+    ("floyd-step", Job::Cycle(CycleJob::Floyd)),
     ("astar-puzzle", Job::Puzzle(PuzzleJob::Astar)),
     ("idastar-puzzle", Job::Puzzle(PuzzleJob::Idastar)),
 ];
@@ -165,7 +166,7 @@ impl Job {
             Job::Edges(job) => job.run(alloc, size, repeats),
             Job::Components => repeat_components(alloc, size, repeats),
             Job::Flow(job) => job.run(alloc, size, repeats),
-            Job::Cycle => repeat_cycle(size as u64, repeats),
+            Job::Cycle(job) => job.run(size as u64, repeats),
             Job::Puzzle(job) => job.run(alloc, size, repeats),
         }
     }

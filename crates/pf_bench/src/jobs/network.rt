@@ -8,7 +8,7 @@ use crate::inputs::{Network, WeightedEdge, edges, edges_from_first, groups};
 use crate::repeats::{Outcome, Repeats};
 use pf_base::PathError;
 use pf_components::connected_components::components;
-use pf_cycles::directed::cycle_detection::brent;
+use pf_cycles::directed::cycle_detection::{brent, floyd};
 use pf_flow::edmonds_karp::{EKFlows, edmonds_karp_dense, edmonds_karp_sparse};
 use pf_graph::undirected::kruskal::{kruskal, kruskal_indices};
 use pf_graph::undirected::prim::prim;
@@ -124,21 +124,33 @@ fn flow_of(found: Result<EKFlows<usize, i64>, PathError>, is_last: bool) -> Outc
     }
 }
 
-/// Finds the cycle of `x * x + 1` modulo a number, from 1, so often.
-pub fn repeat_cycle(modulus: u64, repeats: &Repeats) -> Outcome
-    requires { 0 < modulus }
-{
-    repeats.check(|is_last| steps_of(cycle(modulus), is_last))
+/// A search for the cycle of a step.
+pub enum CycleJob {
+    Brent,
+    Floyd,
 }
 
 /// The length of a cycle, its first value, and the steps to it.
 type Cycle = (usize, u64, usize);
 
-/// The cycle of `x * x + 1` modulo a number, from 1.
-fn cycle(modulus: u64) -> Result<Cycle, PathError>
-    requires { 0 < modulus }
-{
-    brent(1u64, |x| x.wrapping_mul(x).wrapping_add(1) % modulus)
+impl CycleJob {
+    /// Finds the cycle of `x * x + 1` modulo a number, from 1, so often.
+    pub fn run(&self, modulus: u64, repeats: &Repeats) -> Outcome
+        requires { 0 < modulus }
+    {
+        repeats.check(|is_last| steps_of(self.cycle(modulus), is_last))
+    }
+
+    /// The cycle of `x * x + 1` modulo a number, from 1.
+    fn cycle(&self, modulus: u64) -> Result<Cycle, PathError>
+        requires { 0 < modulus }
+    {
+        let next = |x: u64| x.wrapping_mul(x).wrapping_add(1) % modulus;
+        match self {
+            CycleJob::Brent => brent(1u64, next),
+            CycleJob::Floyd => floyd(1u64, next),
+        }
+    }
 }
 
 /// The length of a cycle and the steps to it.
