@@ -1,14 +1,24 @@
 -- What waits in a search by growing limits, as entries are taken out and put off.
-use Rattle.std.proofs.Common.{ℕ, ◌≡◌, sym, ◌∙◌, ap, subst, arith, List, [], ◌∷◌, ◌++◌, inl, inr, ℤ}
-use Rattle.std.specs.Prelude.{Contains, IsPermutation, ◌≤ℤ◌, ◌<ℤ◌, ◌⊎◌, ◌↔◌}
+use Rattle.std.proofs.Common.{ℕ, ◌≡◌, refl, sym, ◌∙◌, ap, subst, arith, true, false, true≢false, List, [], ◌∷◌, ◌++◌, inl, inr, ℤ, Option, Some, None}
+use Rattle.std.specs.Prelude.{Contains, IsPermutation, MatchOption, is_some, slice_get, ◌≤ℤ◌, ◌<ℤ◌, ◌+ℤ◌, ◌⊎◌, ◌↔◌}
 use Rattle.std.proofs.lemmas.Int.{ints}
 use Rattle.std.proofs.lemmas.List.Elements.{Contains-append_left, Contains-append_right, Contains-append_cases}
 use Rattle.std.proofs.lemmas.List.Sorted.{Contains-permutation, IsPermutation-sym}
 use Rattle.pf_core.specs.declared.labels.Label.{Label}
 use Rattle.pf_core.specs.Labels.{Labels, HasLabel}
 use Rattle.pf_base.proofs.ListLemmas.{Contains-head, Contains-tail, Contains-cases, Contains-append_one}
+use Rattle.pf_core.proofs.LabelLemmas.{label_is}
 use Rattle.pf_informed.specs.Internal.Waiting.{Entry, IsWaiting, IsQueue}
 use Rattle.pf_informed.specs.Internal.Fringe.{StillWait, NothingWaits, IsNextEntry, IsBelowWaiting, IsTakenWithin}
+
+module _ {C : Type 0} (P : Type 0) (Q : C → Type 0) where
+  pub at_some : (r : Option C) → is_some r ≡ true → MatchOption r P Q → (x : C) × Q x
+  at_some (Some x) is h = (x, h)
+  at_some None is h = absurd (true≢false (sym is))
+
+  pub at_none : (r : Option C) → is_some r ≡ false → MatchOption r P Q → P
+  at_none (Some x) is h = absurd (true≢false is)
+  at_none None is h = h
 
 module _ {C : Type 0} where
   -- ---- the last entry of a list
@@ -58,77 +68,79 @@ module _ {C : Type 0} where
         (λ f h. Contains-append_right heap (current ++ later) f (Contains-append_right current later f (subst (λ (xs : List (Entry C)). Contains xs f) kept h)))
 
 -- the number of a label waits in a list that has more
-pub waits_in : {C : Type 0} (value : C → ℤ) (es fs : List (Entry C)) (k : ℕ) (l : Label C) → ((f : Entry C) → Contains es f → Contains fs f) → IsWaiting value es k l → IsWaiting value fs k l
-waits_in value es fs k l more w = (w.0, more w.0 w.1, w.2, w.3)
+pub waits_in : {C : Type 0} (value : C → ℤ) (estimates : List C) (es fs : List (Entry C)) (k : ℕ) (l : Label C) → ((f : Entry C) → Contains es f → Contains fs f) → IsWaiting value estimates es k l → IsWaiting value estimates fs k l
+waits_in value estimates es fs k l more w = (w.0, more w.0 w.1, w.2, w.3)
 
-module _ {C : Type 0} (value : C → ℤ) (labels : Labels C) where
-  pub StillWait-in : (gs es fs : List (Entry C)) → StillWait value labels gs es → ((f : Entry C) → Contains es f → Contains fs f) → StillWait value labels gs fs
-  StillWait-in gs es fs waits more = λ k l h w. waits_in value es fs k l more (waits k l h w)
+module _ {C : Type 0} (value : C → ℤ) (labels : Labels C) (estimates : List C) where
+  pub StillWait-in : (gs es fs : List (Entry C)) → StillWait value labels estimates gs es → ((f : Entry C) → Contains es f → Contains fs f) → StillWait value labels estimates gs fs
+  StillWait-in gs es fs waits more = λ k l h w. waits_in value estimates es fs k l more (waits k l h w)
 
-  pub queue_in : (estimates : List C) (es fs : List (Entry C)) → IsQueue value labels estimates es → ((f : Entry C) → Contains fs f → Contains es f) → IsQueue value labels estimates fs
-  queue_in estimates es fs q less = record { labelled = λ e h. q.labelled e (less e h); summed = λ e h. q.summed e (less e h) }
+  pub queue_in : (es fs : List (Entry C)) → IsQueue value labels estimates es → ((f : Entry C) → Contains fs f → Contains es f) → IsQueue value labels estimates fs
+  queue_in es fs q less = record { labelled = λ e h. q.labelled e (less e h) }
 
-  pub moved_wait : (heap current later current' later' : List (Entry C)) → ((f : Entry C) → Contains (heap ++ current) f ↔ Contains current' f) → later' ≡ later → StillWait value labels (heap ++ (current ++ later)) (current' ++ later')
-  moved_wait heap current later current' later' same kept = λ k l h w. waits_in value (heap ++ (current ++ later)) (current' ++ later') k l (moved_in heap current later current' later' same kept) w
+  pub moved_wait : (heap current later current' later' : List (Entry C)) → ((f : Entry C) → Contains (heap ++ current) f ↔ Contains current' f) → later' ≡ later → StillWait value labels estimates (heap ++ (current ++ later)) (current' ++ later')
+  moved_wait heap current later current' later' same kept = λ k l h w. waits_in value estimates (heap ++ (current ++ later)) (current' ++ later') k l (moved_in heap current later current' later' same kept) w
 
   -- ---- stale entries are taken out, and one that is not
-  module _ (gs es fs : List (Entry C)) (e : Entry C) (is : es ≡ fs ++ e ∷ []) (waits : StillWait value labels gs es) where
-    pub StillWait-last : StillWait value labels gs (e ∷ fs)
+  module _ (gs es fs : List (Entry C)) (e : Entry C) (is : es ≡ fs ++ e ∷ []) (waits : StillWait value labels estimates gs es) where
+    pub StillWait-last : StillWait value labels estimates gs (e ∷ fs)
     StillWait-last = StillWait-in gs es (e ∷ fs) waits (λ f h. elim (rest_or_last es fs e is f h) as (λ _. Contains (e ∷ fs) f) [
       | inl i ↦ Contains-tail fs e f i
       | inr s ↦ subst (λ x. Contains (e ∷ fs) x) s (Contains-head fs e)
     ])
 
-    pub StillWait-stale : ((l : Label C) → HasLabel labels e.2 l → value l.cost <ℤ value e.1) → StillWait value labels gs fs
+    pub StillWait-stale : ((l : Label C) (h : C) → HasLabel labels e.1 l → slice_get estimates e.1 ≡ Some h → (value l.cost +ℤ value h) <ℤ value e.0) → StillWait value labels estimates gs fs
     StillWait-stale stale = λ k l h w.
         let v = waits k l h w in
-        elim (rest_or_last es fs e is v.0 v.1) as (λ _. IsWaiting value fs k l) [
+        elim (rest_or_last es fs e is v.0 v.1) as (λ _. IsWaiting value estimates fs k l) [
           | inl i ↦ (v.0, i, v.2, v.3)
-          | inr s ↦ absurd (omega (arith, ints, stale l (subst (λ (n : ℕ). HasLabel labels n l) (sym (ap (λ (f : Entry C). f.2) s ∙ v.2)) h), ap (λ (f : Entry C). value f.1) s, v.3))
+          | inr s ↦
+              let own = ap (λ (f : Entry C). f.1) s ∙ v.2 in
+              let at = v.3 in
+              absurd (omega (arith, ints, stale l at.0 (subst (λ (n : ℕ). HasLabel labels n l) (sym own) h) (subst (λ (n : ℕ). slice_get estimates n ≡ Some at.0) (sym own) at.1), ap (λ (f : Entry C). value f.0) s, at.2))
         ]
 
   -- ---- the next entry of a round is put off, or its number taken out
-  module _ (e : Entry C) (current current' later : List (Entry C)) (n : IsNextEntry value labels e current current') where
+  module _ (e : Entry C) (current current' later : List (Entry C)) (n : IsNextEntry value labels estimates e current current') where
     abbrev put_off : List (Entry C)
     put_off = current' ++ (later ++ e ∷ [])
 
     last_put : Contains (current' ++ (later ++ e ∷ [])) e
     last_put = Contains-append_right current' (later ++ e ∷ []) e (Contains-append_right later (e ∷ []) e (Contains-head [] e))
 
-    pub StillWait-put_off : (gs : List (Entry C)) → StillWait value labels gs (current ++ later) → StillWait value labels gs (current' ++ (later ++ e ∷ []))
+    pub StillWait-put_off : (gs : List (Entry C)) → StillWait value labels estimates gs (current ++ later) → StillWait value labels estimates gs (current' ++ (later ++ e ∷ []))
     StillWait-put_off gs waits = λ k l h w.
         let v = waits k l h w in
-        elim (Contains-append_cases current later v.0 v.1) as (λ _. IsWaiting value (current' ++ (later ++ e ∷ [])) k l) [
-          | inl i ↦ waits_in value (e ∷ current') put_off k l (cons_in e current' put_off last_put (λ f j. Contains-append_left current' (later ++ e ∷ []) f j)) (n.left k l h (v.0, i, v.2, v.3))
+        elim (Contains-append_cases current later v.0 v.1) as (λ _. IsWaiting value estimates (current' ++ (later ++ e ∷ [])) k l) [
+          | inl i ↦ waits_in value estimates (e ∷ current') put_off k l (cons_in e current' put_off last_put (λ f j. Contains-append_left current' (later ++ e ∷ []) f j)) (n.left k l h (v.0, i, v.2, v.3))
           | inr i ↦ (v.0, Contains-append_right current' (later ++ e ∷ []) v.0 (Contains-append_left later (e ∷ []) v.0 i), v.2, v.3)
         ]
 
-    pub queue_put_off : (estimates : List C) → IsQueue value labels estimates (current ++ later) → IsQueue value labels estimates (current' ++ (later ++ e ∷ []))
-    queue_put_off estimates q = queue_in estimates (current ++ later) put_off q (either_in current' (later ++ e ∷ []) (current ++ later) (λ f h. Contains-append_left current later f (n.rest f h))
+    pub queue_put_off : IsQueue value labels estimates (current ++ later) → IsQueue value labels estimates (current' ++ (later ++ e ∷ []))
+    queue_put_off q = queue_in (current ++ later) put_off q (either_in current' (later ++ e ∷ []) (current ++ later) (λ f h. Contains-append_left current later f (n.rest f h))
         (either_in later (e ∷ []) (current ++ later) (λ f h. Contains-append_right current later f h) (cons_in e [] (current ++ later) (Contains-append_left current later e n.here) (λ f h. absurd (omega (arith, h.1))))))
 
-    pub queue_rest : (estimates : List C) → IsQueue value labels estimates (current ++ later) → IsQueue value labels estimates (current' ++ later)
-    queue_rest estimates q = queue_in estimates (current ++ later) (current' ++ later) q (either_in current' later (current ++ later) (λ f h. Contains-append_left current later f (n.rest f h)) (λ f h. Contains-append_right current later f h))
+    pub queue_rest : IsQueue value labels estimates (current ++ later) → IsQueue value labels estimates (current' ++ later)
+    queue_rest q = queue_in (current ++ later) (current' ++ later) q (either_in current' later (current ++ later) (λ f h. Contains-append_left current later f (n.rest f h)) (λ f h. Contains-append_right current later f h))
 
-    pub taken_within : (estimates : List C) (limit : C) (gs : List (Entry C)) → IsQueue value labels estimates (current ++ later) → StillWait value labels gs (current ++ later) → value e.0.0 ≤ℤ value limit → IsTakenWithin value labels estimates e.2 e.1 limit gs (current' ++ later)
-    taken_within estimates limit gs q waits low =
-        let there = Contains-append_left current later e n.here in
-        let l = q.labelled e there in
-        let h = q.summed e there in
+    pub taken_within : (limit : C) (gs : List (Entry C)) (label : Label C) → HasLabel labels e.1 label → IsQueue value labels estimates (current ++ later) → StillWait value labels estimates gs (current ++ later) → value e.0 ≤ℤ value limit → IsTakenWithin value labels estimates e.1 label.cost limit gs (current' ++ later)
+    taken_within limit gs label at q waits low =
+        let l = q.labelled e (Contains-append_left current later e n.here) in
+        let same = ap (λ (m : Label C). value m.cost) (label_is labels e.1 label l.0 at l.1) in
         record {
-          label = l.0;
-          at = l.1;
-          same = omega (arith, ints, l.2, n.newest l.0 l.1);
-          estimate = h.0;
-          estimated = h.1;
-          within = omega (arith, ints, h.2, low);
+          label = label;
+          at = at;
+          same = refl;
+          estimate = l.2;
+          estimated = l.3;
+          within = omega (arith, ints, same, l.4, low);
           left = λ k m a w.
               let v = waits k m a w in
-              elim (Contains-append_cases current later v.0 v.1) as (λ _. (k ≡ e.2) ⊎ IsWaiting value (current' ++ later) k m) [
+              elim (Contains-append_cases current later v.0 v.1) as (λ _. (k ≡ e.1) ⊎ IsWaiting value estimates (current' ++ later) k m) [
                 | inl i ↦
                     let u = n.left k m a (v.0, i, v.2, v.3) in
-                    elim (Contains-cases current' e u.0 u.1) as (λ _. (k ≡ e.2) ⊎ IsWaiting value (current' ++ later) k m) [
-                      | inl s ↦ inl (sym (ap (λ (f : Entry C). f.2) s ∙ u.2))
+                    elim (Contains-cases current' e u.0 u.1) as (λ _. (k ≡ e.1) ⊎ IsWaiting value estimates (current' ++ later) k m) [
+                      | inl s ↦ inl (sym (ap (λ (f : Entry C). f.1) s ∙ u.2))
                       | inr j ↦ inr (u.0, Contains-append_left current' later u.0 j, u.2, u.3)
                     ]
                 | inr i ↦ inr (v.0, Contains-append_right current' later v.0 i, v.2, v.3)
@@ -136,8 +148,8 @@ module _ {C : Type 0} (value : C → ℤ) (labels : Labels C) where
         }
 
   -- ---- what holds of what still waits holds of what waited
-  module _ (estimates : List C) (es fs : List (Entry C)) (waits : StillWait value labels es fs) where
-    pub nothing_before : NothingWaits value labels fs → NothingWaits value labels es
+  module _ (es fs : List (Entry C)) (waits : StillWait value labels estimates es fs) where
+    pub nothing_before : NothingWaits value labels estimates fs → NothingWaits value labels estimates es
     nothing_before none = λ k l h w. none k l h (waits k l h w)
 
     pub below_before : (limit : C) → IsBelowWaiting value labels estimates fs limit → IsBelowWaiting value labels estimates es limit
@@ -159,10 +171,10 @@ module _ {C : Type 0} (value : C → ℤ) (labels : Labels C) where
     pub none_more : (f : Entry C) → Contains (current' ++ later) f → Contains (current ++ later) f
     none_more f h = Contains-append_right current later f (subst (λ (xs : List (Entry C)). Contains (xs ++ later) f) over h)
 
-    pub rest_waits : StillWait value labels current [] → (gs : List (Entry C)) → StillWait value labels gs (current ++ later) → StillWait value labels gs (current' ++ later)
+    pub rest_waits : StillWait value labels estimates current [] → (gs : List (Entry C)) → StillWait value labels estimates gs (current ++ later) → StillWait value labels estimates gs (current' ++ later)
     rest_waits none gs waits = λ k l h w.
         let v = waits k l h w in
-        elim (Contains-append_cases current later v.0 v.1) as (λ _. IsWaiting value (current' ++ later) k l) [
+        elim (Contains-append_cases current later v.0 v.1) as (λ _. IsWaiting value estimates (current' ++ later) k l) [
           | inl i ↦ let u = none k l h (v.0, i, v.2, v.3) in let gone = u.1 in absurd (omega (arith, gone.1))
           | inr i ↦ (v.0, Contains-append_right current' later v.0 i, v.2, v.3)
         ]

@@ -42,7 +42,7 @@ module _ {C : Type 0} (value : C → ℤ) (fits : ℤ → Type 0) (estimates : L
   eased_beside parent t row labels labels' heap heap' rest e = record {
     len = e.len;
     lower = e.lower;
-    from = λ k m h. elim (e.from k m h) as (λ _. HasLabel labels k m ⊎ ((c : C) × Contains row (k, c) × (m.parent ≡ parent) × (value m.cost ≡ t +ℤ value c) × IsWaiting value (heap' ++ rest) k m)) [
+    from = λ k m h. elim (e.from k m h) as (λ _. HasLabel labels k m ⊎ ((c : C) × Contains row (k, c) × (m.parent ≡ parent) × (value m.cost ≡ t +ℤ value c) × IsWaiting value estimates (heap' ++ rest) k m)) [
       | inl old ↦ inl old
       | inr new ↦ let w = new.4 in inr (new.0, new.1, new.2, new.3, (w.0, Contains-append_left heap' rest w.0 w.1, w.2, w.3))
     ];
@@ -56,17 +56,13 @@ module _ {C : Type 0} (value : C → ℤ) (fits : ℤ → Type 0) (estimates : L
 
   pub queue_beside : (number : ℕ) (l : Label C) (row : List (ℕ × C)) (labels labels' : Labels C) (heap heap' rest : List (Entry C)) → Follows value fits estimates number l row labels labels' heap heap' → IsQueue value labels estimates (heap ++ rest) → IsQueue value labels' estimates heap' → IsQueue value labels' estimates (heap' ++ rest)
   queue_beside number l row labels labels' heap heap' rest f q new = record {
-    labelled = λ e h. elim (Contains-append_cases heap' rest e h) as (λ _. (m : Label C) × HasLabel labels' e.2 m × (value m.cost ≤ℤ value e.1)) [
+    labelled = λ e h. elim (Contains-append_cases heap' rest e h) as (λ _. (m : Label C) × HasLabel labels' e.1 m × (c : C) × (slice_get estimates e.1 ≡ Some c) × ((value m.cost +ℤ value c) ≤ℤ value e.0)) [
       | inl i ↦ new.labelled e i
       | inr i ↦
           let w = f.wide in
           let s = f.relaxed in
           let m = q.labelled e (Contains-append_right heap rest e i) in
-          let now = s.lower e.2 m.0 (w.stays e.2 m.0 m.1) in
-          (now.0, now.1, omega (arith, ints, now.2, m.2))
-    ];
-    summed = λ e h. elim (Contains-append_cases heap' rest e h) as (λ _. (c : C) × (slice_get estimates e.2 ≡ Some c) × (value e.0.0 ≡ value e.1 +ℤ value c)) [
-      | inl i ↦ new.summed e i
-      | inr i ↦ q.summed e (Contains-append_right heap rest e i)
+          let now = s.lower e.1 m.0 (w.stays e.1 m.0 m.1) in
+          (now.0, now.1, m.2, m.3, omega (arith, ints, now.2, m.4))
     ];
   }

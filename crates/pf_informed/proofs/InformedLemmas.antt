@@ -13,9 +13,10 @@ use Rattle.pf_base.proofs.ListLemmas.{int_dec, Contains-head, Contains-cases, no
 use Rattle.pf_core.proofs.LabelLemmas.{HasLabel-inside, label_is}
 use Rattle.pf_core.proofs.FrontierLemmas.{walk_positive}
 use Rattle.pf_informed.specs.Internal.Forest.{IsForest}
-use Rattle.pf_informed.specs.Internal.Waiting.{Entry, IsWaiting, IsQueue, IsTaken, SumOverflows, Covers}
+use Rattle.pf_informed.specs.Internal.Waiting.{Entry, IsWaiting, IsQueue, IsTaken, SumOverflows, SumsFit, Covers}
 use Rattle.pf_informed.specs.Internal.Informed.{IsClosed, IsFoundFrom, IsInformed, Follows}
 use Rattle.pf_core.proofs.ClimbLemmas.{chain_distinct}
+use Rattle.pf_informed.proofs.EstimateLemmas.{estimate_at}
 use Rattle.pf_informed.proofs.PathUp.{climb_walk, NoRepeats-reverse}
 use Rattle.pf_informed.proofs.ForestLemmas.{label_from_zero}
 
@@ -44,10 +45,10 @@ module _ {X C : Type 0} (value : C → ℤ) (fits : ℤ → Type 0) (step : X �
         pub sums : t ≡ up_to +ℤ rest
         pub number : ℕ
         pub here : stands number (end_of x before)
-        pub why : ((l : Label C) × HasLabel labels number l × IsWaiting value entries number l × (value l.cost ≤ℤ (d +ℤ up_to))) ⊎ ((s : ℤ) × (pos 0 ≤ℤ s) × (s ≤ℤ (d +ℤ up_to)) × SumOverflows value fits estimates number s)
+        pub why : ((l : Label C) × HasLabel labels number l × IsWaiting value estimates entries number l × (value l.cost ≤ℤ (d +ℤ up_to))) ⊎ ((s : ℤ) × (pos 0 ≤ℤ s) × (s ≤ℤ (d +ℤ up_to)) × SumOverflows value fits estimates number s)
 
       stops_here : (w : List X) (d : ℤ) (x : X) (t : ℤ) (k : ℕ) → stands k x → GoesAlong go x w t
-          → ((l : Label C) × HasLabel labels k l × IsWaiting value entries k l × (value l.cost ≤ℤ d)) ⊎ ((s : ℤ) × (pos 0 ≤ℤ s) × (s ≤ℤ d) × SumOverflows value fits estimates k s) → Stops d x w t
+          → ((l : Label C) × HasLabel labels k l × IsWaiting value estimates entries k l × (value l.cost ≤ℤ d)) ⊎ ((s : ℤ) × (pos 0 ≤ℤ s) × (s ≤ℤ d) × SumOverflows value fits estimates k s) → Stops d x w t
       stops_here w d x t k here walk why = record {
         before = [];
         after = w;
@@ -59,7 +60,7 @@ module _ {X C : Type 0} (value : C → ℤ) (fits : ℤ → Type 0) (step : X �
         sums = omega (arith, ints);
         number = k;
         here = here;
-        why = elim why as (λ _. ((l : Label C) × HasLabel labels k l × IsWaiting value entries k l × (value l.cost ≤ℤ (d +ℤ pos 0))) ⊎ ((s : ℤ) × (pos 0 ≤ℤ s) × (s ≤ℤ (d +ℤ pos 0)) × SumOverflows value fits estimates k s)) [
+        why = elim why as (λ _. ((l : Label C) × HasLabel labels k l × IsWaiting value estimates entries k l × (value l.cost ≤ℤ (d +ℤ pos 0))) ⊎ ((s : ℤ) × (pos 0 ≤ℤ s) × (s ≤ℤ (d +ℤ pos 0)) × SumOverflows value fits estimates k s)) [
           | inl a ↦ inl (a.0, a.1, a.2, omega (arith, ints, a.3))
           | inr a ↦ inr (a.0, a.1, omega (arith, ints, a.2), a.3)
         ];
@@ -78,7 +79,7 @@ module _ {X C : Type 0} (value : C → ℤ) (fits : ℤ → Type 0) (step : X �
         sums = omega (arith, ints, r.sums, sum);
         number = r.number;
         here = r.here;
-        why = elim r.why as (λ _. ((l : Label C) × HasLabel labels r.number l × IsWaiting value entries r.number l × (value l.cost ≤ℤ (d +ℤ (z +ℤ r.up_to)))) ⊎ ((s : ℤ) × (pos 0 ≤ℤ s) × (s ≤ℤ (d +ℤ (z +ℤ r.up_to))) × SumOverflows value fits estimates r.number s)) [
+        why = elim r.why as (λ _. ((l : Label C) × HasLabel labels r.number l × IsWaiting value estimates entries r.number l × (value l.cost ≤ℤ (d +ℤ (z +ℤ r.up_to)))) ⊎ ((s : ℤ) × (pos 0 ≤ℤ s) × (s ≤ℤ (d +ℤ (z +ℤ r.up_to))) × SumOverflows value fits estimates r.number s)) [
           | inl a ↦ inl (a.0, a.1, a.2, omega (arith, ints, a.3))
           | inr a ↦ inr (a.0, a.1, omega (arith, ints, a.2), a.3)
         ];
@@ -116,7 +117,7 @@ module _ {X C : Type 0} (value : C → ℤ) (fits : ℤ → Type 0) (step : X �
         pub number : ℕ
         pub label : Label C
         pub at : HasLabel labels number label
-        pub waiting : IsWaiting value entries number label
+        pub waiting : IsWaiting value estimates entries number label
         pub estimate : C
         pub kept : slice_get estimates number ≡ Some estimate
         pub low : (value label.cost +ℤ value estimate) ≤ℤ t
@@ -160,20 +161,19 @@ module _ {X C : Type 0} (value : C → ℤ) (fits : ℤ → Type 0) (step : X �
           end_split (b ∷ v) x u = end_split v b u
 
       -- no walk to a goal costs less than what is taken out
-      pub goal_above : (number : ℕ) (cost : C) (entries' : List (Entry C)) → IsTaken value labels estimates number cost entries entries' → IsQueue value labels estimates entries' → fits (value cost) → (x : X) → stands number x
+      pub goal_above : (number : ℕ) (cost : C) (entries' : List (Entry C)) → IsTaken value labels estimates number cost entries entries' → fits (value cost) → (x : X) → stands number x
           → (w : List X) (t : ℤ) → GoesAlong step start w t → passes (end_of start w) ≡ true → value cost ≤ℤ t
-      goal_above number cost entries' taken q fit x here w t walk good = elim (on_goal_walk w t walk good) as (λ _. value cost ≤ℤ t) [
+      goal_above number cost entries' taken fit x here w t walk good = elim (on_goal_walk w t walk good) as (λ _. value cost ≤ℤ t) [
         | inl r ↦ elim (taken.left r.number r.label r.at r.waiting) as (λ _. value cost ≤ℤ t) [
           | inl same ↦
               let e = ap (λ (m : Label C). value m.cost) (label_is labels number taken.label r.label taken.at (subst (λ (n : ℕ). HasLabel labels n r.label) same r.at)) in
               omega (arith, ints, e, taken.same, r.cheaper)
           | inr wait ↦
               let least = taken.least wait.0 wait.1 in
-              let sum = q.summed wait.0 wait.1 in
-              let same : sum.0 ≡ r.estimate = one_estimate (slice_get estimates r.number) sum.0 r.estimate (subst (λ (n : ℕ). slice_get estimates n ≡ Some sum.0) wait.2 sum.1) r.kept in
-              let e = ap value same in
+              let sum = wait.3 in
+              let e = ap value (one_estimate (slice_get estimates r.number) sum.0 r.estimate sum.1 r.kept) in
               let own = estimated number x taken.estimate here taken.estimated in
-              omega (arith, ints, least, sum.2, e, wait.3, r.low, own, zero_up x (all number x here))
+              omega (arith, ints, least, sum.2, e, r.low, own, zero_up x (all number x here))
         ]
         | inr n ↦ elim (int_dec (value cost) t) as (λ _. value cost ≤ℤ t) [
           | inl le ↦ le
@@ -185,11 +185,11 @@ module _ {X C : Type 0} (value : C → ℤ) (fits : ℤ → Type 0) (step : X �
           one_estimate o a b h k = let e : Some a ≡ Some b = sym h ∙ k in cc
 
       -- where nothing waits, no walk to a goal fits
-      pub no_goal_fits : ((k : ℕ) (l : Label C) → HasLabel labels k l → ¬ (IsWaiting value entries k l)) → (w : List X) (t : ℤ) → GoesAlong step start w t → passes (end_of start w) ≡ true → ¬ (fits t)
+      pub no_goal_fits : ((k : ℕ) (l : Label C) → HasLabel labels k l → ¬ (IsWaiting value estimates entries k l)) → (w : List X) (t : ℤ) → GoesAlong step start w t → passes (end_of start w) ≡ true → ¬ (fits t)
       no_goal_fits none w t walk good = elim (on_goal_walk w t walk good) as (λ _. ¬ (fits t)) [ inl r ↦ absurd (none r.number r.label r.at r.waiting) | inr n ↦ n ]
 
     -- ---- where nothing waits and each number has a label, no walk leads to a goal
-    pub no_goal : ((k : ℕ) (l : Label C) → HasLabel labels k l → ¬ (IsWaiting value entries k l)) → ((j : ℕ) (y : X) → stands j y → (l : Label C) × HasLabel labels j l) → (w : List X) (x : X) (k : ℕ) (t : ℤ) → stands k x → GoesAlong step x w t → ¬ (passes (end_of x w) ≡ true)
+    pub no_goal : ((k : ℕ) (l : Label C) → HasLabel labels k l → ¬ (IsWaiting value estimates entries k l)) → ((j : ℕ) (y : X) → stands j y → (l : Label C) × HasLabel labels j l) → (w : List X) (x : X) (k : ℕ) (t : ℤ) → stands k x → GoesAlong step x w t → ¬ (passes (end_of x w) ≡ true)
     no_goal none all [] x k t here walk good =
         let l = all k x here in
         elim (i.cut k l.0 l.1) as (λ _. ⊥) [ inl w ↦ none k l.0 l.1 w | inr c ↦ true≢false (sym good ∙ c.fails x here) ]
@@ -236,34 +236,49 @@ module _ {C : Type 0} (value : C → ℤ) (first : Label C) (nothing : value fir
     climbs = λ k l h. let o = only_here k l h in ([], (l, h, sym (ap (λ (m : Label C). m.depth) o.1) ∙ flat));
   }
 
-  module _ (estimates : List C) (h : C) (known : slice_get estimates 0 ≡ Some h) (entries : List (Entry C)) (p : IsPermutation ((record { 0 = record { 0 = h }; 1 = first.cost; 2 = 0 }) ∷ []) entries) where
+  module _ (estimates : List C) (h : C) (known : slice_get estimates 0 ≡ Some h) (entries : List (Entry C)) (p : IsPermutation ((h, 0) ∷ []) entries) where
     abbrev entry : Entry C
-    entry = (record { 0 = record { 0 = h }; 1 = first.cost; 2 = 0 })
+    entry = (h, 0)
 
     one_entry : (e : Entry C) → Contains entries e → entry ≡ e
     one_entry e i = elim (Contains-cases [] entry e (Contains-permutation entries (entry ∷ []) e (IsPermutation-sym _ _ p) i)) as (λ _. entry ≡ e) [ inl s ↦ s | inr n ↦ absurd (omega (arith, n.1)) ]
 
     pub queue_begin : IsQueue value (Some first ∷ []) estimates entries
     queue_begin = record {
-      labelled = λ e i. subst (λ (x : Entry C). (l : Label C) × HasLabel (Some first ∷ []) x.2 l × (value l.cost ≤ℤ value x.1)) (one_entry e i) (first, refl, omega (arith, ints));
-      summed = λ e i. subst (λ (x : Entry C). (v : C) × (slice_get estimates x.2 ≡ Some v) × (value x.0.0 ≡ value x.1 +ℤ value v)) (one_entry e i) (h, known, omega (arith, ints, nothing));
+      labelled = λ e i. subst (λ (x : Entry C). (l : Label C) × HasLabel (Some first ∷ []) x.1 l × (v : C) × (slice_get estimates x.1 ≡ Some v) × ((value l.cost +ℤ value v) ≤ℤ value x.0)) (one_entry e i) (first, refl, h, known, omega (arith, ints, nothing));
     }
+
+    pub sums_begin : (fits : ℤ → Type 0) → fits (value h) → SumsFit value fits (Some first ∷ []) estimates
+    sums_begin fits fit k l v i at =
+        let o = only_here k l i in
+        let e : Some h ≡ Some v = sym known ∙ subst (λ (n : ℕ). slice_get estimates n ≡ Some v) o.0 at in
+        let same : h ≡ v = cc in
+        subst (λ (z : ℤ). fits z) (omega (arith, ints, nothing, ap value same, ap (λ (m : Label C). value m.cost) o.1)) fit
 
     pub informed_begin : {X : Type 0} (fits : ℤ → Type 0) (step : X → ℤ → X → Type 0) (passes : X → Bool) (stands : ℕ → X → Type 0) → IsInformed value fits estimates step passes stands (Some first ∷ []) entries 1
     informed_begin fits step passes stands = record {
-      cut = λ k l i. let o = only_here k l i in inl (entry, Contains-permutation (entry ∷ []) entries entry p (Contains-head [] entry), sym o.0, ap (λ (m : Label C). value m.cost) o.1);
+      cut = λ k l i.
+          let o = only_here k l i in
+          inl (entry, Contains-permutation (entry ∷ []) entries entry p (Contains-head [] entry), sym o.0, (h, subst (λ (n : ℕ). slice_get estimates n ≡ Some h) (sym o.0) known, omega (arith, ints, nothing, ap (λ (m : Label C). value m.cost) o.1)));
       linked = λ k l m i d. absurd (omega (arith, d, flat, ap (λ (m : Label C). m.depth) (only_here k l i).1));
       found_by = λ j l. inl (first, subst (λ (n : ℕ). HasLabel (Some first ∷ []) n first) (let e : 0 ≡ j = omega (arith, l) in e) refl);
     }
 
 -- estimates that were asked for stay
 pub queue_kept : {C : Type 0} (value : C → ℤ) (labels : Labels C) (estimates estimates' : List C) (entries : List (Entry C)) → ((k : ℕ) (c : C) → slice_get estimates k ≡ Some c → slice_get estimates' k ≡ Some c) → IsQueue value labels estimates entries → IsQueue value labels estimates' entries
-queue_kept value labels estimates estimates' entries kept q = record { labelled = q.labelled; summed = λ e i. let s = q.summed e i in (s.0, kept e.2 s.0 s.1, s.2) }
+queue_kept value labels estimates estimates' entries kept q = record { labelled = λ e i. let r = q.labelled e i in (r.0, r.1, r.2, kept e.1 r.2 r.3, r.4) }
+
+pub sums_kept : {C : Type 0} (value : C → ℤ) (fits : ℤ → Type 0) (labels : Labels C) (estimates estimates' : List C) → length labels ≤ length estimates → ((k : ℕ) (c : C) → slice_get estimates k ≡ Some c → slice_get estimates' k ≡ Some c) → SumsFit value fits labels estimates → SumsFit value fits labels estimates'
+sums_kept value fits labels estimates estimates' few kept sums k l h at there =
+    let was = estimate_at estimates k (omega (arith, few, HasLabel-inside labels k l at)) in
+    let e : Some was.0 ≡ Some h = sym (kept k was.0 was.1) ∙ there in
+    let same : was.0 ≡ h = cc in
+    subst (λ (z : ℤ). fits z) (omega (arith, ints, ap value same)) (sums k l was.0 at was.1)
 
 -- ---- a turn: a number is taken out, its node opened, and the steps from it taken
 module _ {X C : Type 0} (value : C → ℤ) (fits : ℤ → Type 0) (step : X → ℤ → X → Type 0) (passes : X → Bool) (estimates estimates' : List C) (kept : (k : ℕ) (c : C) → slice_get estimates k ≡ Some c → slice_get estimates' k ≡ Some c)
     (found found' : ℕ) (stands stands' : ℕ → X → Type 0) (grow : Grows found found' stands stands') (labels labels' : Labels C) (inside : length labels ≤ found) (entries entries1 entries' : List (Entry C))
-    (number : ℕ) (own : Label C) (own_at : HasLabel labels number own) (left : (k : ℕ) (l : Label C) → HasLabel labels k l → IsWaiting value entries k l → (k ≡ number) ⊎ IsWaiting value entries1 k l) (fails : (x : X) → stands number x → passes x ≡ false)
+    (number : ℕ) (own : Label C) (own_at : HasLabel labels number own) (left : (k : ℕ) (l : Label C) → HasLabel labels k l → IsWaiting value estimates entries k l → (k ≡ number) ⊎ IsWaiting value estimates entries1 k l) (fails : (x : X) → stands number x → passes x ≡ false)
     (row : List (ℕ × C)) (lists : (x : X) → stands number x → ListsSteps value step stands' x row) (fresh : (j : ℕ) → found ≤ j → j < found' → (c : C) × Contains row (j, c)) (someone : (x : X) × stands number x)
     (follows : Follows value fits estimates' number own row labels labels' entries1 entries') (f : IsForest value labels) (i : IsInformed value fits estimates step passes stands labels entries found) where
   lower_now : (k : ℕ) (l : Label C) → HasLabel labels k l → (m : Label C) × HasLabel labels' k m × (value m.cost ≤ℤ value l.cost)
@@ -306,13 +321,13 @@ module _ {X C : Type 0} (value : C → ℤ) (fits : ℤ → Type 0) (step : X �
     cut = λ k m h.
         let e = follows.relaxed in
         let w = follows.wide in
-        elim (e.from k m h) as (λ _. IsWaiting value entries' k m ⊎ IsClosed value fits estimates' step passes stands' labels' entries' k m) [
+        elim (e.from k m h) as (λ _. IsWaiting value estimates' entries' k m ⊎ IsClosed value fits estimates' step passes stands' labels' entries' k m) [
           | inl old ↦
               let was = w.from k m old in
-              elim (i.cut k m was) as (λ _. IsWaiting value entries' k m ⊎ IsClosed value fits estimates' step passes stands' labels' entries' k m) [
-                | inl wait ↦ elim (left k m was wait) as (λ _. IsWaiting value entries' k m ⊎ IsClosed value fits estimates' step passes stands' labels' entries' k m) [
+              elim (i.cut k m was) as (λ _. IsWaiting value estimates' entries' k m ⊎ IsClosed value fits estimates' step passes stands' labels' entries' k m) [
+                | inl wait ↦ elim (left k m was wait) as (λ _. IsWaiting value estimates' entries' k m ⊎ IsClosed value fits estimates' step passes stands' labels' entries' k m) [
                   | inl same ↦ inr (subst (λ (n : ℕ). IsClosed value fits estimates' step passes stands' labels' entries' n m) (sym same) (opened m (subst (λ (n : ℕ). HasLabel labels n m) same was)))
-                  | inr on ↦ inl (on.0, e.more on.0 on.1, on.2, on.3)
+                  | inr on ↦ let at = on.3 in inl (on.0, e.more on.0 on.1, on.2, (at.0, kept k at.0 at.1, at.2))
                 ]
                 | inr c ↦ inr (closed_now k m was c)
               ]

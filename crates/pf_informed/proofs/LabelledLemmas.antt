@@ -20,12 +20,13 @@ use Rattle.pf_core.specs.NodeLaws.{StandsFor-one, StandsFor-inside}
 use Rattle.pf_core.proofs.UnitLemmas.{begins_all}
 use Rattle.pf_informed.specs.Internal.Estimated.{IsEstimated}
 use Rattle.pf_informed.specs.Internal.Forest.{IsForest}
-use Rattle.pf_informed.specs.Internal.Waiting.{Entry, IsWaiting, SumOverflows, IsTaken, IsQueue}
+use Rattle.pf_informed.specs.Internal.Waiting.{Entry, IsWaiting, SumOverflows, IsTaken}
 use Rattle.pf_informed.specs.Internal.Informed.{IsInformed}
 use Rattle.pf_informed.specs.Internal.Labelled.{IsPastBest}
 use Rattle.pf_informed.proofs.PathUp.{climb_walk}
 use Rattle.pf_informed.proofs.InformedLemmas.{frontier, goal_above, best_path}
-use Rattle.pf_informed.proofs.NodeWalks.{never_above, estimate_at, stands_reached, estimate_is, cheap_of_goes, costs_of_cheap}
+use Rattle.pf_informed.proofs.EstimateLemmas.{estimate_at}
+use Rattle.pf_informed.proofs.NodeWalks.{never_above, stands_reached, estimate_is, cheap_of_goes, costs_of_cheap}
 
 module _ {N : Type 0} (eq : N → N → Bool) (laws : IsEquivalence eq) (g : NodeGraph N) (alike : (x y : N) → InReach eq g.edges g.starts x → eq x y ≡ true → ListsEdges eq (λ z. z) (g.edges x) (g.edges y)) where
   pub reach_along : (w : List N) (a : N) (t : ℤ) → InReach eq g.edges g.starts a → GoesAlong (IsStep eq g) a w t → InReach eq g.edges g.starts (end_of a w)
@@ -45,7 +46,7 @@ module _ {N : Type 0} (eq : N → N → Bool) (laws : IsEquivalence eq) (g : Nod
       (within : (k : ℕ) (x : N) → StandsFor eq keys k x → InReach eq g.edges g.starts x) (estimated : (k : ℕ) (x : N) (h : C) → StandsFor eq keys k x → slice_get estimates k ≡ Some h → value h ≡ least x)
       (asked : (k : ℕ) (x : N) → StandsFor eq keys k x → (h : C) × (slice_get estimates k ≡ Some h))
       (labels : Labels C) (entries : List (Entry C)) (f : IsForest value labels) (found : ℕ) (i : IsInformed value fits estimates (IsStep eq g) (λ _. false) (StandsFor eq keys) labels entries found)
-      (best : C) (past : (k : ℕ) (l : Label C) → HasLabel labels k l → IsWaiting value entries k l → IsPastBest value estimates (Some best) k l) (fit : fits (value best))
+      (best : C) (past : (k : ℕ) (l : Label C) → HasLabel labels k l → IsWaiting value estimates entries k l → IsPastBest value estimates (Some best) k l) (fit : fits (value best))
       (low : (w : List N) (u : ℤ) → GoesAlong (IsStep eq g) start w u → test (end_of start w) ≡ true → value best ≤ℤ u) where
     same_stands : (k : ℕ) (x y : N) → StandsFor eq keys k x → StandsFor eq keys k y → eq x y ≡ true
     same_stands k x y a b =
@@ -117,9 +118,9 @@ module _ {N : Type 0} (eq : N → N → Bool) (laws : IsEquivalence eq) (start :
       → (value : C → ℤ) (fits : ℤ → Type 0) → ((x y z : ℤ) → fits x → fits z → x ≤ℤ y → y ≤ℤ z → fits y) → fits (pos 0) → (least : N → ℤ) → ((x y : N) → InReach eq edges (start ∷ []) x → eq x y ≡ true → least x ≡ least y) → IsAdmissible eq edges (start ∷ []) test least
       → (keys : List N) → ((k : ℕ) (x : N) → slice_get keys k ≡ Some x → InReach eq edges (start ∷ []) x) → IsDistinct eq keys → (estimates : List C) → IsEstimated value least (slice_get keys) estimates → length estimates ≡ length keys → StandsFor eq keys 0 start
       → (labels : Labels C) (entries : List (Entry C)) → IsForest value labels → IsInformed value fits estimates (IsStep eq (record { starts = start ∷ []; edges = edges })) test (StandsFor eq keys) labels entries (length keys)
-      → (number : ℕ) (cost : C) (entries' : List (Entry C)) (t : IsTaken value labels estimates number cost entries entries') → IsQueue value labels estimates entries' → fits (value cost) → number < length keys → ((x : N) → StandsFor eq keys number x → test x ≡ true)
+      → (number : ℕ) (cost : C) (entries' : List (Entry C)) (t : IsTaken value labels estimates number cost entries entries') → fits (value cost) → number < length keys → ((x : N) → StandsFor eq keys number x → test x ≡ true)
       → (path : List N) × IsCheapestGoalPath eq edges (start ∷ []) test path (value cost)
-  goal_path {C} alike costs same_test value fits between nothing least same_least adm keys reached distinct estimates known asked begins labels entries f i number cost entries' t q fit inside good =
+  goal_path {C} alike costs same_test value fits between nothing least same_least adm keys reached distinct estimates known asked begins labels entries f i number cost entries' t fit inside good =
       let p = no_negative eq laws graph alike costs in
       let within = stands_reached eq laws graph alike value least same_least keys reached estimates known asked in
       let estimated = estimate_is eq laws graph alike value least same_least keys reached estimates known asked in
@@ -127,7 +128,7 @@ module _ {N : Type 0} (eq : N → N → Bool) (laws : IsEquivalence eq) (start :
       let above : (s0 : N) → eq start s0 ≡ true → (u : List N) (z : ℤ) → GoesAlong (IsStep eq graph) s0 u z → test (end_of s0 u) ≡ true → value t.label.cost ≤ℤ z = λ s0 e u z goes at.
       let low = goal_above value fits (IsStep eq graph) test p estimates (StandsFor eq keys) labels entries f (length keys) i least s0 (StandsFor-same eq laws keys 0 start s0 begins e) (InReach eq edges (start ∷ [])) within adm.from_zero (never_above eq laws graph alike test least adm) estimated
       (λ k y st. estimate_at estimates k (subst (λ (n : ℕ). k < n) (sym asked) (StandsFor-inside eq keys k y st))) between nothing
-      number cost entries' t q fit here.0 here.1 u z goes at in
+      number cost entries' t fit here.0 here.1 u z goes at in
       omega (arith, ints, low, t.same) in
       let chain = f.climbs number t.label t.at in
       let numbers = reverse (number ∷ chain.0) in
@@ -138,9 +139,9 @@ module _ {N : Type 0} (eq : N → N → Bool) (laws : IsEquivalence eq) (start :
       (best.first ∷ best.nodes, subst (IsCheapestGoalPath eq edges (start ∷ []) test (best.first ∷ best.nodes)) t.same answer)
 
 -- ---- all that waits is past the least cost, where what was taken out is
-pub past_all : {C : Type 0} (value : C → ℤ) (labels : Labels C) (estimates : List C) (entries entries' : List (Entry C)) (number : ℕ) (cost : C) (t : IsTaken value labels estimates number cost entries entries') → IsQueue value labels estimates entries'
-    → (best : Option C) (b : C) → best ≡ Some b → (e : C) → slice_get estimates number ≡ Some e → value b <ℤ (value cost +ℤ value e) → (k : ℕ) (l : Label C) → HasLabel labels k l → IsWaiting value entries k l → IsPastBest value estimates best k l
-past_all {C} value labels estimates entries entries' number cost t q best b is e at past k l here w = elim (t.left k l here w) as (λ _. IsPastBest value estimates best k l) [
+pub past_all : {C : Type 0} (value : C → ℤ) (labels : Labels C) (estimates : List C) (entries entries' : List (Entry C)) (number : ℕ) (cost : C) (t : IsTaken value labels estimates number cost entries entries')
+    → (best : Option C) (b : C) → best ≡ Some b → (e : C) → slice_get estimates number ≡ Some e → value b <ℤ (value cost +ℤ value e) → (k : ℕ) (l : Label C) → HasLabel labels k l → IsWaiting value estimates entries k l → IsPastBest value estimates best k l
+past_all {C} value labels estimates entries entries' number cost t best b is e at past k l here w = elim (t.left k l here w) as (λ _. IsPastBest value estimates best k l) [
   | inl same ↦ (
     b,
     is,
@@ -153,10 +154,10 @@ past_all {C} value labels estimates entries entries' number cost t q best b is e
     b,
     is,
     λ h a.
-        let sum = q.summed left.0 left.1 in
-        let one = ap value (one_estimate (slice_get estimates k) sum.0 h (subst (λ (n : ℕ). slice_get estimates n ≡ Some sum.0) left.2 sum.1) a) in
+        let sum = left.3 in
+        let one = ap value (one_estimate (slice_get estimates k) sum.0 h sum.1 a) in
         let own = ap value (one_estimate (slice_get estimates number) t.estimate e t.estimated at) in
-        omega (arith, ints, past, t.least left.0 left.1, sum.2, left.3, one, own),
+        omega (arith, ints, past, t.least left.0 left.1, sum.2, one, own),
   )
 ]
   where

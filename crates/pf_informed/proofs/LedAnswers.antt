@@ -24,10 +24,11 @@ use Rattle.pf_informed.specs.Internal.Forest.{IsForest}
 use Rattle.pf_informed.specs.Internal.Fringe.{IsBelowGoals, IsBelowWaiting, IsTakenWithin}
 use Rattle.pf_informed.specs.Internal.Informed.{IsInformed}
 use Rattle.pf_informed.specs.Internal.Led.{IsLed}
-use Rattle.pf_informed.specs.Internal.Waiting.{Entry, IsWaiting, IsTaken, IsQueue}
+use Rattle.pf_informed.specs.Internal.Waiting.{Entry, IsWaiting, IsTaken}
+use Rattle.pf_informed.proofs.EstimateLemmas.{estimate_at}
 use Rattle.pf_informed.proofs.GrowingLemmas.{limit_now}
 use Rattle.pf_informed.proofs.InformedLemmas.{goal_above, no_goal_fits, no_goal, best_path}
-use Rattle.pf_informed.proofs.NodeWalks.{never_above, stands_reached, estimate_is, overflow_at, no_walk_fits, estimate_at}
+use Rattle.pf_informed.proofs.NodeWalks.{never_above, stands_reached, estimate_is, overflow_at, no_walk_fits}
 use Rattle.pf_informed.proofs.WiderLemmas.{all_labelled, some_unlabelled, no_label}
 
 module _ {M N C S T H : Type 0} {keys_of : M → List N} {eq : N → N → Bool} (laws : IsEquivalence eq) {value : C → ℤ} {edge_answers : S → List N → (N → List (N × ℤ)) → Type 0} {test_answers : T → (N → Type 0) → (N → Bool) → Type 0} {estimate_answers : H → (N → Type 0) → (N → ℤ) → Type 0}
@@ -57,12 +58,12 @@ module _ {M N C S T H : Type 0} {keys_of : M → List N} {eq : N → N → Bool}
   module _ (fits : ℤ → Type 0) (between : (x y z : ℤ) → fits x → fits z → x ≤ℤ y → y ≤ℤ z → fits y) (nothing : fits (pos 0)) (labels : Labels C) (wide : length labels ≡ length keys) (entries : List (Entry C)) (forest : IsForest value labels)
       (informed : IsInformed value fits kept (IsStep eq graph) test (StandsFor eq keys) labels entries (length keys)) where
     -- no walk to a goal costs less than what is taken out
-    pub led_above : (number : ℕ) (cost : C) (entries' : List (Entry C)) (t : IsTaken value labels kept number cost entries entries') → IsQueue value labels kept entries' → fits (value cost)
+    pub led_above : (number : ℕ) (cost : C) (entries' : List (Entry C)) (t : IsTaken value labels kept number cost entries entries') → fits (value cost)
         → (s : N) → eq start s ≡ true → (w : List N) (u : ℤ) → GoesAlong (IsStep eq graph) s w u → test (end_of s w) ≡ true → value t.label.cost ≤ℤ u
-    led_above number cost entries' t q fit s e w u goes good =
+    led_above number cost entries' t fit s e w u goes good =
         let here = begins_all eq laws keys number (subst (λ (n : ℕ). number < n) wide (HasLabel-inside labels number t.label t.at)) in
         let low = goal_above value fits (IsStep eq graph) test (no_negative eq laws graph led.explores.alike led.costs) kept (StandsFor eq keys) labels entries forest (length keys) informed least s (begins_at s e) (InReach eq edges (start ∷ [])) led_within
-        led.admissible.from_zero (never_above eq laws graph led.explores.alike test least led.admissible) led_estimate led_asked between nothing number cost entries' t q fit here.0 here.1 w u goes good in
+        led.admissible.from_zero (never_above eq laws graph led.explores.alike test least led.admissible) led_estimate led_asked between nothing number cost entries' t fit here.0 here.1 w u goes good in
         omega (arith, ints, low, t.same)
 
     -- no walk to a goal costs less than the limit, which stayed or was raised to the least sum that waits
@@ -87,7 +88,7 @@ module _ {M N C S T H : Type 0} {keys_of : M → List N} {eq : N → N → Bool}
         best_answer eq laws graph led.explores.alike is_start (all_starts eq start is_start (λ y. ((λ e. e), (λ e. e)))) (only_starts eq start is_start (λ y. ((λ e. e), (λ e. e)))) test led.same_test
         keys' (StandsFor-one eq laws keys' distinct) numbers nodes t (subst (IsBestNumbered (IsStep eq graph) test is_start (StandsFor eq keys') numbers) same grown) zip
 
-    module _ (none : (k : ℕ) (l : Label C) → HasLabel labels k l → ¬ (IsWaiting value entries k l)) where
+    module _ (none : (k : ℕ) (l : Label C) → HasLabel labels k l → ¬ (IsWaiting value kept entries k l)) where
       -- each node that was found has a label, and nothing waits
       pub led_none : All (λ o. IsSome o) labels → HasNoGoalWalk eq (IsSuccessor eq edges) (start ∷ []) test
       led_none all = no_walk eq laws graph led.explores.alike is_start (all_starts eq start is_start (λ y. ((λ e. e), (λ e. e)))) (only_starts eq start is_start (λ y. ((λ e. e), (λ e. e)))) test

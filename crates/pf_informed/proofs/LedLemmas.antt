@@ -39,7 +39,7 @@ module _ {X C : Type 0} (value : C → ℤ) (fits : ℤ → Type 0) (step : X �
 
   pub informed_still : IsInformed value fits estimates step passes stands labels entries found → IsInformed value fits estimates step passes stands' labels entries found'
   informed_still i = record {
-    cut = λ k l h. elim (i.cut k l h) as (λ _. IsWaiting value entries k l ⊎ IsClosed value fits estimates step passes stands' labels entries k l) [
+    cut = λ k l h. elim (i.cut k l h) as (λ _. IsWaiting value estimates entries k l ⊎ IsClosed value fits estimates step passes stands' labels entries k l) [
       | inl w ↦ inl w
       | inr c ↦ inr (record {
         fails = λ x s. c.fails x (before k l h x s);

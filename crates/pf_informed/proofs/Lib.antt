@@ -1,6 +1,7 @@
 pub mod Bounds
 pub mod ForestLemmas
 pub mod WaitingLemmas
+pub mod BucketLemmas
 pub mod PathUp
 pub mod EstimateLemmas
 pub mod FringeLemmas

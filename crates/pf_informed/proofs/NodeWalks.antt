@@ -1,5 +1,5 @@
 -- From what a search by cost and estimate says of numbers to walks over nodes.
-use Rattle.std.proofs.Common.{◌≡◌, ℕ, zero, suc, ◌<◌, Bool, true, List, [], ◌∷◌, ◌++◌, ◌∙◌, refl, sym, subst, arith, inl, inr, ℤ, pos, nat_eq, eq-eqb, Some, length}
+use Rattle.std.proofs.Common.{◌≡◌, ℕ, ◌<◌, Bool, true, List, [], ◌∷◌, ◌++◌, ◌∙◌, refl, sym, subst, arith, inl, inr, ℤ, pos, nat_eq, eq-eqb, Some, length}
 use Rattle.std.specs.Prelude.{◌≤ℤ◌, ◌+ℤ◌, slice_get, reverse}
 use Rattle.std.specs.Cmp.{IsEquivalence}
 use Rattle.std.proofs.lemmas.Int.{ints}
@@ -91,7 +91,7 @@ module _ {N : Type 0} (eq : N → N → Bool) (laws : IsEquivalence eq) (g : Nod
   module _ {C : Type 0} (value : C → ℤ) (fits : ℤ → Type 0) (between : (x y z : ℤ) → fits x → fits z → x ≤ℤ y → y ≤ℤ z → fits y) (nothing : fits (pos 0)) (test : N → Bool) (least : N → ℤ) (adm : IsAdmissible eq g.edges g.starts test least)
       (p : IsNonNegative (IsStep eq g)) (keys : List N) (one : (i j : ℕ) (x : N) → StandsFor eq keys i x → StandsFor eq keys j x → i ≡ j) (estimates : List C) (start : N) (begins : StandsFor eq keys 0 start) (is_start : HasNode eq g.starts start)
       (within : (k : ℕ) (x : N) → StandsFor eq keys k x → InReach eq g.edges g.starts x) (estimated : (k : ℕ) (x : N) (h : C) → StandsFor eq keys k x → slice_get estimates k ≡ Some h → value h ≡ least x)
-      (labels : Labels C) (entries : List (Entry C)) (f : IsForest value labels) (found : ℕ) (i : IsInformed value fits estimates (IsStep eq g) test (StandsFor eq keys) labels entries found) (none : (k : ℕ) (l : Label C) → HasLabel labels k l → ¬ (IsWaiting value entries k l)) where
+      (labels : Labels C) (entries : List (Entry C)) (f : IsForest value labels) (found : ℕ) (i : IsInformed value fits estimates (IsStep eq g) test (StandsFor eq keys) labels entries found) (none : (k : ℕ) (l : Label C) → HasLabel labels k l → ¬ (IsWaiting value estimates entries k l)) where
     past : (k : ℕ) (x : N) (s u : ℤ) → StandsFor eq keys k x → pos 0 ≤ℤ s → s ≤ℤ u → SumOverflows value fits estimates k s → ¬ (fits (u +ℤ least x))
     past k x s u here from low dear fit =
         let up = adm.from_zero x (within k x here) in
@@ -157,9 +157,3 @@ module _ {N : Type 0} (eq : N → N → Bool) (laws : IsEquivalence eq) (g : Nod
   pub no_walk_fits : (test : N → Bool) (fits : ℤ → Type 0) → ((s : N) → HasNode eq g.starts s → (w : List N) (t : ℤ) → GoesAlong (IsStep eq g) s w t → test (end_of s w) ≡ true → ¬ (fits t)) → NoGoalWalkFits eq g.edges g.starts test fits
   no_walk_fits test fits none [] u walk costs = absurd costs
   no_walk_fits test fits none (a ∷ w) u walk costs = none a walk.begins w u (goes_of_cheap w a u (cheap_of_costs w a u (InReach-start eq laws g.edges g.starts a a walk.begins (laws.refl a)) costs)) walk.ends
-
--- an estimate for each number
-pub estimate_at : {C : Type 0} (estimates : List C) (k : ℕ) → k < length estimates → (h : C) × (slice_get estimates k ≡ Some h)
-estimate_at [] k l = absurd (omega (arith, l))
-estimate_at (h ∷ estimates) zero l = (h, refl)
-estimate_at (h ∷ estimates) (suc k) l = estimate_at estimates k (omega (arith, l))

@@ -29,7 +29,7 @@ module _ {C : Type 0} (value : C → ℤ) where
     }
 
     pub queue_wider : (estimates : List C) (entries : List (Entry C)) → IsQueue value labels estimates entries → IsQueue value wider estimates entries
-    queue_wider estimates entries q = record { labelled = λ e h. let r = q.labelled e h in (r.0, stays e.2 r.0 r.1, r.2); summed = q.summed }
+    queue_wider estimates entries q = record { labelled = λ e h. let r = q.labelled e h in (r.0, stays e.1 r.0 r.1, r.2, r.3, r.4) }
 
   -- places without a label
   module _ (labels wider : Labels C) (n : ℕ) (few : length labels ≤ n) (is : wider ≡ labels ++ replicate (n - length labels) None) where

@@ -10,7 +10,7 @@ ghost use Rattle.pf_core.specs.Numbered.{Grows};
 ghost use Rattle.pf_informed.specs.Estimates.{MayOverflow};
 ghost use Rattle.pf_informed.specs.Internal.Labelled.{IsPastBest, IsLabelled};
 ghost use Rattle.pf_informed.specs.Internal.Led.{IsLed, IsNew, OfLedSearch};
-ghost use Rattle.pf_informed.specs.Internal.Waiting.{IsWaiting, IsQueue, IsTaken};
+ghost use Rattle.pf_informed.specs.Internal.Waiting.{IsWaiting, IsQueue, IsTaken, SumsFit};
 
 use crate::functions::EstimateFunction;
 use crate::queue::{Queue, Taken, take_least};
@@ -46,8 +46,9 @@ fn take_within<C: Cost, A: Allocator>(
     best: Option<C>,
 ) -> Option<Taken<C>>
     requires queue { IsQueue C.value labels.now.items estimates.now.items queue.old.entries }
+    requires sums { SumsFit C.value C.fits labels.now.items estimates.now.items }
     ensures queue { IsQueue C.value labels.now.items estimates.now.items queue.new.entries }
-    ensures taken { MatchOption result ((k : ℕ) (l : Label C) → HasLabel labels.now.items k l → IsWaiting C.value queue.old.entries k l → IsPastBest C.value estimates.now.items best k l)
+    ensures taken { MatchOption result ((k : ℕ) (l : Label C) → HasLabel labels.now.items k l → IsWaiting C.value estimates.now.items queue.old.entries k l → IsPastBest C.value estimates.now.items best k l)
         (λ r. IsTaken C.value labels.now.items estimates.now.items r.number r.cost queue.old.entries queue.new.entries) }
     ensures fewer { MatchOption result (length queue.new.entries ≤ length queue.old.entries) (λ r. length queue.new.entries + 1 ≤ length queue.old.entries) }
 {

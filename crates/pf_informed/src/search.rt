@@ -45,13 +45,14 @@ impl<C: Cost, A: Allocator + Copy> Search<C, A> {
         requires nothing_waits { self.old.queue.entries ≡ [] }
         ensures estimates { self.new.estimates.items ≡ self.old.estimates.items }
         ensures labelled { OnOk result (self.new.labels.items ≡ Some (record { cost = C.zero; parent = 0; depth = 0; settled = false }) ∷ []) }
-        ensures waiting { OnOk result ((h : C) × (slice_get self.old.estimates.items 0 ≡ Some h) × IsPermutation (record { 0 = record { 0 = h }; 1 = C.zero; 2 = 0 } ∷ []) self.new.queue.entries) }
+        ensures waiting { OnOk result ((h : C) × (slice_get self.old.estimates.items 0 ≡ Some h) × C.fits (C.value h) × IsPermutation ((h, 0) ∷ []) self.new.queue.entries) }
         ensures refused { IfErr result (λ e. e ≡ PathError.OutOfMemory) }
     {
-        let nothing = C::zero();
+        let estimate = self.estimates[0];
+        estimate.known();
         self.queue.reserve(1)?;
-        self.queue.push(self.estimates[0], nothing, 0);
-        self.labels.push(Slot::first(nothing))?;
+        self.queue.push(estimate, 0);
+        self.labels.push(Slot::first(C::zero()))?;
         Ok(())
     }
 
@@ -59,9 +60,9 @@ impl<C: Cost, A: Allocator + Copy> Search<C, A> {
     pub fn follow(&mut self, number: usize) -> Result<(), PathError>
         requires steps { AreSteps C.value (length self.old.estimates.items) self.old.row.items }
         requires labelled { (l : Label C) × HasLabel self.old.labels.items number l }
-        requires sound { IsSound C.value self.old.labels.items self.old.estimates.items self.old.queue.entries }
+        requires sound { IsSound C.value C.fits self.old.labels.items self.old.estimates.items self.old.queue.entries }
         ensures estimates { self.new.estimates.items ≡ self.old.estimates.items }
-        ensures sound { OnOk result (IsSound C.value self.new.labels.items self.new.estimates.items self.new.queue.entries) }
+        ensures sound { OnOk result (IsSound C.value C.fits self.new.labels.items self.new.estimates.items self.new.queue.entries) }
         ensures followed { OnOk result ((l : Label C) → HasLabel self.old.labels.items number l
             → Follows C.value C.fits self.new.estimates.items number l self.old.row.items self.old.labels.items self.new.labels.items self.old.queue.entries self.new.queue.entries) }
         ensures wide { OnOk result (length self.new.labels.items ≡ length self.new.estimates.items) }

@@ -40,7 +40,7 @@ where
     requires new { IsNew search.old }
     requires graph { (g : NodeGraph N) × (test : N → Bool) × (least : N → ℤ)
         × IsLed M.keys N.eq C.value S.answers T.answers H.answers g test least graph.now estimate.old search.old.estimates.items }
-    ensures ready { OnOk result (IsReady C.value (length (M.keys graph.now.discovery.nodes)) search.new) }
+    ensures ready { OnOk result (IsReady C.value C.fits (length (M.keys graph.now.discovery.nodes)) search.new) }
     ensures graph { OnOk result ((g : NodeGraph N) (test : N → Bool) (least : N → ℤ)
         → IsLed M.keys N.eq C.value S.answers T.answers H.answers g test least graph.now estimate.old search.old.estimates.items
         → IsLed M.keys N.eq C.value S.answers T.answers H.answers g test least graph.now estimate.new search.new.estimates.items
@@ -68,10 +68,10 @@ where
     H: EstimateFunction<N, C>,
     A: Allocator + Copy,
     requires labelled { (l : Label C) × HasLabel search.old.labels.items number l }
-    requires ready { IsReady C.value (length (M.keys graph.old.discovery.nodes)) search.old }
+    requires ready { IsReady C.value C.fits (length (M.keys graph.old.discovery.nodes)) search.old }
     requires graph { (g : NodeGraph N) × (test : N → Bool) × (least : N → ℤ)
         × IsLed M.keys N.eq C.value S.answers T.answers H.answers g test least graph.old estimate.old search.old.estimates.items }
-    ensures ready { OnOk result (IsReady C.value (length (M.keys graph.new.discovery.nodes)) search.new) }
+    ensures ready { OnOk result (IsReady C.value C.fits (length (M.keys graph.new.discovery.nodes)) search.new) }
     ensures grows { FindsMore M.keys N.eq graph.old graph.new }
     ensures queue { OnOk result ((rest : List (Entry C)) → IsQueue C.value search.old.labels.items search.old.estimates.items (search.old.queue.entries ++ rest)
         → IsQueue C.value search.new.labels.items search.new.estimates.items (search.new.queue.entries ++ rest)) }
@@ -81,7 +81,7 @@ where
         → IsLed M.keys N.eq C.value S.answers T.answers H.answers g test least graph.old estimate.old search.old.estimates.items
         → IsLed M.keys N.eq C.value S.answers T.answers H.answers g test least graph.new estimate.new search.new.estimates.items
         × ((passes : N → Bool) (before rest : List (Entry C)) → ((x : N) → StandsFor N.eq (M.keys graph.old.discovery.nodes) number x → passes x ≡ false)
-        → OthersWait C.value search.old.labels.items number before (search.old.queue.entries ++ rest)
+        → OthersWait C.value search.old.labels.items search.old.estimates.items number before (search.old.queue.entries ++ rest)
         → IsInformedOn M.keys N.eq C.value C.fits g passes graph.old search.old before
         → IsInformedOn M.keys N.eq C.value C.fits g passes graph.new search.new (search.new.queue.entries ++ rest))) }
     ensures refused { IfErr result (λ e. e ≡ PathError.OutOfMemory) }

@@ -26,7 +26,7 @@ use std::hash::Hash;
 /// - `OutOfMemory`: a request for memory was refused.
 ///
 /// The algorithm is A* (P. E. Hart, N. J. Nilsson, B. Raphael, "A formal basis for the heuristic
-/// determination of minimum cost paths", 1968), with a binary heap.
+/// determination of minimum cost paths", 1968), with the queue of `astar` over functions.
 pub fn astar<N, C, S, E, T, A>(
     alloc: A,
     space: &S,

@@ -24,8 +24,8 @@ use std::alloc::Allocator;
 /// - `OutOfMemory`: a request for memory was refused.
 ///
 /// The algorithm is A* (P. E. Hart, N. J. Nilsson, B. Raphael, "A formal basis for the heuristic
-/// determination of minimum cost paths", 1968), with a binary heap. No edges are read twice,
-/// and nothing is hashed.
+/// determination of minimum cost paths", 1968), with the queue of `astar` over functions. No edges are
+/// read twice, and nothing is hashed.
 pub fn astar<C, E, A>(
     alloc: A,
     estimates: &E,

@@ -15,41 +15,44 @@ listed lists = lists.current.items ++ lists.later.items
 abbrev pub IsBelowGoals : {X : Type 0} → (X → ℤ → X → Type 0) → (X → Bool) → (X → Type 0) → ℤ → Type 0
 IsBelowGoals {X} step passes starts limit = (s : X) → starts s → (w : List X) (t : ℤ) → GoesAlong step s w t → passes (end_of s w) ≡ true → limit ≤ℤ t
 
-module _ {C : Type 0} (value : C → ℤ) (labels : Labels C) where
+module _ {C : Type 0} (value : C → ℤ) (labels : Labels C) (estimates : List C) where
   -- each number whose label waited waits on
   abbrev pub StillWait : List (Entry C) → List (Entry C) → Type 0
-  StillWait entries entries' = (k : ℕ) (l : Label C) → HasLabel labels k l → IsWaiting value entries k l → IsWaiting value entries' k l
+  StillWait entries entries' = (k : ℕ) (l : Label C) → HasLabel labels k l → IsWaiting value estimates entries k l → IsWaiting value estimates entries' k l
 
   -- no label waits
   abbrev pub NothingWaits : List (Entry C) → Type 0
-  NothingWaits entries = (k : ℕ) (l : Label C) → HasLabel labels k l → ¬ (IsWaiting value entries k l)
+  NothingWaits entries = (k : ℕ) (l : Label C) → HasLabel labels k l → ¬ (IsWaiting value estimates entries k l)
+
+  -- the sum is no more than that of the number's label and estimate
+  abbrev pub IsNewest : Entry C → Type 0
+  IsNewest e = (l : Label C) (h : C) → HasLabel labels e.1 l → slice_get estimates e.1 ≡ Some h → value e.0 ≤ℤ (value l.cost +ℤ value h)
 
   -- the entry of a number's label was taken out, and nothing else but stale entries
   pub record IsNextEntry (e : Entry C) (entries entries' : List (Entry C)) : Type 0 where
     pub here : Contains entries e
-    pub newest : (l : Label C) → HasLabel labels e.2 l → value e.1 ≤ℤ value l.cost
+    pub newest : IsNewest e
     pub rest : (f : Entry C) → Contains entries' f → Contains entries f
     pub left : StillWait entries (e ∷ entries')
 
-  module _ (estimates : List C) where
-    -- no label that waits costs, with the estimate of its node, less than the limit
-    abbrev pub IsBelowWaiting : List (Entry C) → C → Type 0
-    IsBelowWaiting entries limit = (k : ℕ) (l : Label C) (h : C) → HasLabel labels k l → IsWaiting value entries k l → slice_get estimates k ≡ Some h → value limit ≤ℤ (value l.cost +ℤ value h)
+  -- no label that waits costs, with the estimate of its node, less than the limit
+  abbrev pub IsBelowWaiting : List (Entry C) → C → Type 0
+  IsBelowWaiting entries limit = (k : ℕ) (l : Label C) (h : C) → HasLabel labels k l → IsWaiting value estimates entries k l → slice_get estimates k ≡ Some h → value limit ≤ℤ (value l.cost +ℤ value h)
 
-    -- The number's label is one that was taken out, which is within the limit with the estimate, and what else waited still waits.
-    pub record IsTakenWithin (number : ℕ) (cost limit : C) (entries entries' : List (Entry C)) : Type 0 where
-      pub label : Label C
-      pub at : HasLabel labels number label
-      pub same : value label.cost ≡ value cost
-      pub estimate : C
-      pub estimated : slice_get estimates number ≡ Some estimate
-      pub within : (value cost +ℤ value estimate) ≤ℤ value limit
-      pub left : (k : ℕ) (l : Label C) → HasLabel labels k l → IsWaiting value entries k l → (k ≡ number) ⊎ IsWaiting value entries' k l
+  -- The number's label is one that was taken out, which is within the limit with the estimate, and what else waited still waits.
+  pub record IsTakenWithin (number : ℕ) (cost limit : C) (entries entries' : List (Entry C)) : Type 0 where
+    pub label : Label C
+    pub at : HasLabel labels number label
+    pub same : value label.cost ≡ value cost
+    pub estimate : C
+    pub estimated : slice_get estimates number ≡ Some estimate
+    pub within : (value cost +ℤ value estimate) ≤ℤ value limit
+    pub left : (k : ℕ) (l : Label C) → HasLabel labels k l → IsWaiting value estimates entries k l → (k ≡ number) ⊎ IsWaiting value estimates entries' k l
 
-    -- While a round begins with what was put off: what waited waits on, as the entry of the least sum so far, as one of those that were looked at, or as one of the rest.
-    pub record IsRaising (entries : List (Entry C)) (least : Entry C) (current later : List (Entry C)) : Type 0 where
-      pub queue : IsQueue value labels estimates (least ∷ (current ++ later))
-      pub newest : (l : Label C) → HasLabel labels least.2 l → value least.1 ≤ℤ value l.cost
-      pub waits : StillWait entries (least ∷ (current ++ later))
-      pub below : (f : Entry C) → Contains current f → value least.0.0 ≤ℤ value f.0.0
-      pub fewer : length (current ++ later) + 1 ≤ length entries
+  -- While a round begins with what was put off: what waited waits on, as the entry of the least sum so far, as one of those that were looked at, or as one of the rest.
+  pub record IsRaising (entries : List (Entry C)) (least : Entry C) (current later : List (Entry C)) : Type 0 where
+    pub queue : IsQueue value labels estimates (least ∷ (current ++ later))
+    pub newest : IsNewest least
+    pub waits : StillWait entries (least ∷ (current ++ later))
+    pub below : (f : Entry C) → Contains current f → value least.0 ≤ℤ value f.0
+    pub fewer : length (current ++ later) + 1 ≤ length entries

@@ -35,6 +35,6 @@ module _ {C : Type 0} (value : C → ℤ) (fits : ℤ → Type 0) (estimates : L
       pub edge : step source price node
 
     pub record IsInformed (found : ℕ) : Type 0 where
-      pub cut : (k : ℕ) (l : Label C) → HasLabel labels k l → IsWaiting value entries k l ⊎ IsClosed k l
+      pub cut : (k : ℕ) (l : Label C) → HasLabel labels k l → IsWaiting value estimates entries k l ⊎ IsClosed k l
       pub linked : (k : ℕ) (l m : Label C) → HasLabel labels k l → 0 < l.depth → HasLabel labels l.parent m → (x : X) → stands l.parent x → (y : X) × (z : ℤ) × step x z y × stands k y × ((value m.cost +ℤ z) ≤ℤ value l.cost)
       pub found_by : (j : ℕ) → j < found → ((l : Label C) × HasLabel labels j l) ⊎ IsFoundFrom j

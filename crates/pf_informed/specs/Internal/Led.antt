@@ -41,8 +41,8 @@ pub record IsNew {C Z : Type 0} (search : Search C Z) : Type 0 where
   pub nothing_waits : search.queue.entries ≡ []
 
 -- what is so of a search between its turns, where so many nodes were found: each has an estimate and a place for its label
-pub record IsReady {C Z : Type 0} (value : C → ℤ) (found : ℕ) (search : Search C Z) : Type 0 where
-  pub sound : IsSound value search.labels.items search.estimates.items search.queue.entries
+pub record IsReady {C Z : Type 0} (value : C → ℤ) (fits : ℤ → Type 0) (found : ℕ) (search : Search C Z) : Type 0 where
+  pub sound : IsSound value fits search.labels.items search.estimates.items search.queue.entries
   pub wide : length search.labels.items ≡ found
   pub asked : length search.estimates.items ≡ found
 
@@ -55,5 +55,5 @@ abbrev pub IsInformedOn : {M N C S T Z : Type 0} → (M → List N) → (N → N
 IsInformedOn keys_of eq value fits g passes graph search entries = IsInformed value fits search.estimates.items (IsStep eq g) passes (StandsFor eq (keys_of graph.discovery.nodes)) search.labels.items entries (length (keys_of graph.discovery.nodes))
 
 -- each label that waited waits on, but for that of this number
-abbrev pub OthersWait : {C : Type 0} → (C → ℤ) → Labels C → ℕ → List (Entry C) → List (Entry C) → Type 0
-OthersWait {C} value labels number entries entries' = (k : ℕ) (l : Label C) → HasLabel labels k l → IsWaiting value entries k l → (k ≡ number) ⊎ IsWaiting value entries' k l
+abbrev pub OthersWait : {C : Type 0} → (C → ℤ) → Labels C → List C → ℕ → List (Entry C) → List (Entry C) → Type 0
+OthersWait {C} value labels estimates number entries entries' = (k : ℕ) (l : Label C) → HasLabel labels k l → IsWaiting value estimates entries k l → (k ≡ number) ⊎ IsWaiting value estimates entries' k l

@@ -87,10 +87,14 @@ where
 /// - `OutOfMemory`: a request for memory was refused.
 ///
 /// The algorithm is A* (P. E. Hart, N. J. Nilsson, B. Raphael, "A formal basis for the heuristic
-/// determination of minimum cost paths", 1968), with a binary heap. Of the nodes that wait, the one
-/// whose cost and estimate have the least sum comes first, and of equal sums the one of the greatest
-/// cost. A node whose cost falls is opened again, so that `successors` may be asked of it again; with
-/// a consistent estimate that does not happen. `estimate` is asked once for each node that is found.
+/// determination of minimum cost paths", 1968), with a queue that is sorted only as far as it is read
+/// (G. Navarro and R. Paredes, "On sorting, heaps, and minimum spanning trees", 2010). Of the nodes that
+/// wait, one whose cost and estimate have the least sum comes first. Of equal sums, those that were
+/// found while this sum was the least come first, the last one before the others; where more than 1,024
+/// others wait with it, those of the greatest cost come before the rest. So where all costs are alike, as
+/// on a board, little more than one way is opened. A node whose cost falls is opened again, so that
+/// `successors` may be asked of it again; with a consistent estimate that does not happen. `estimate` is
+/// asked once for each node that is found.
 pub fn astar<N, C, IN, FN, FH, FS, A>(
     alloc: A,
     start: &N,

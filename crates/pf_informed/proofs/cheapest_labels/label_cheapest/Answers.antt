@@ -52,7 +52,7 @@ turn-requires-clause-ready g c =
     let r = c.turns.invariant.ready in
     let same = sym c.best_with-best.ensures.same in
     record {
-      sound = record { forest = r.sound.forest; few = r.sound.few; estimated = r.sound.estimated; queue = c.in-Some.ensures.queue };
+      sound = record { forest = r.sound.forest; few = r.sound.few; estimated = r.sound.estimated; sums = r.sound.sums; queue = c.in-Some.ensures.queue };
       wide = r.wide ∙ same;
       asked = r.asked ∙ same;
     }
@@ -88,7 +88,7 @@ turns-preserved g c =
     let between = g.M.Numbering.keys c.best_with-best.new.graph.discovery.nodes in
     let after = g.M.Numbering.keys c.turn.new.graph.discovery.nodes in
     let inside : number < length keys = subst (λ (m : ℕ). number < m) inv.ready.wide (HasLabel-inside labels number t.label t.at) in
-    let left = subst (λ (es : List (Entry g.row.C.Denot)). OthersWait value labels number entries es) (sym (append-nil heap)) t.left in
+    let left = subst (λ (es : List (Entry g.row.C.Denot)). OthersWait value labels estimates number entries es) (sym (append-nil heap)) t.left in
     record {
       ready = n.ready;
       begins = λ x s. grown.stays 0 x (inv.begins x s);
@@ -122,7 +122,7 @@ turns-preserved g c =
                 let now = v.0 in
                 let known_path = goal_path eq laws start edges test now.explores.alike now.costs now.same_test value fits (λ x y z. g.C.Number.between_law x y z exact) (g.met.C.Zero.zero_fits_law exact)
                 least now.same_estimate now.admissible keys now.explores.reached now.explores.distinct estimates now.estimated inv.ready.asked (inv.begins start s) labels entries inv.ready.sound.forest (inv.unknown new.0 (graph_of start edges) test least d)
-                number c.in-Some.taken.cost heap t c.in-Some.ensures.queue (subst (λ (q : g.row.C.Denot). fits (value q)) new.1 new.2) inside (λ y k. new.3 (with_test (graph_of start edges) test) y (now.explores, now.tested) k) in
+                number c.in-Some.taken.cost heap t (subst (λ (q : g.row.C.Denot). fits (value q)) new.1 new.2) inside (λ y k. new.3 (with_test (graph_of start edges) test) y (now.explores, now.tested) k) in
                 (known_path.0, subst (λ (q : g.row.C.Denot). IsCheapestGoalPath eq edges (start ∷ []) test known_path.0 (value q)) (sym new.1) known_path.1),
           ));
     }
@@ -173,7 +173,7 @@ returns g c = record {
       let inv = c.turns.invariant in
       let v = inv.searched (graph_of start edges) test least d in
       let unknown = c.in_default-best.is in
-      let none_waits : (k : ℕ) (l : Label g.row.C.Denot) → HasLabel c.turns.search.labels.items k l → ¬ (IsWaiting value c.turns.search.queue.entries k l) = λ k l at w. let b = c.in_default.ensures.taken k l at w in no_best b.0 (sym unknown ∙ b.1) in
+      let none_waits : (k : ℕ) (l : Label g.row.C.Denot) → HasLabel c.turns.search.labels.items k l → ¬ (IsWaiting value c.turns.search.estimates.items c.turns.search.queue.entries k l) = λ k l at w. let b = c.in_default.ensures.taken k l at w in no_best b.0 (sym unknown ∙ b.1) in
       if_none _ _ c.no_path.result (λ all. led_none g.met.N.Eq.laws v.0 inv.ready.asked (inv.begins start s) g.C.Number.fits (λ x y z. g.C.Number.between_law x y z exact) (g.met.C.Zero.zero_fits_law exact)
       c.turns.search.labels.items inv.ready.wide c.turns.search.queue.entries inv.ready.sound.forest (inv.unknown unknown (graph_of start edges) test least d) none_waits all) c.no_path.ensures.none;
   overflow = λ start edges test least s d refused.
@@ -182,7 +182,7 @@ returns g c = record {
       let inv = c.turns.invariant in
       let v = inv.searched (graph_of start edges) test least d in
       let unknown = c.in_default-best.is in
-      let none_waits : (k : ℕ) (l : Label g.row.C.Denot) → HasLabel c.turns.search.labels.items k l → ¬ (IsWaiting value c.turns.search.queue.entries k l) = λ k l at w. let b = c.in_default.ensures.taken k l at w in no_best b.0 (sym unknown ∙ b.1) in
+      let none_waits : (k : ℕ) (l : Label g.row.C.Denot) → HasLabel c.turns.search.labels.items k l → ¬ (IsWaiting value c.turns.search.estimates.items c.turns.search.queue.entries k l) = λ k l at w. let b = c.in_default.ensures.taken k l at w in no_best b.0 (sym unknown ∙ b.1) in
       let past = rw refused at c.no_path.ensures.past in
       led_past g.met.N.Eq.laws v.0 inv.ready.asked (inv.begins start s) g.C.Number.fits (λ x y z. g.C.Number.between_law x y z exact) (g.met.C.Zero.zero_fits_law exact)
       c.turns.search.labels.items inv.ready.wide c.turns.search.queue.entries inv.ready.sound.forest (inv.unknown unknown (graph_of start edges) test least d) none_waits past.1;
@@ -215,7 +215,7 @@ pub begin-requires-clause-graph : goal.begin-requires-clause-graph
 begin-requires-clause-graph g c = c.requires.graph
 
 pub take_within-requires : goal.take_within-requires
-take_within-requires g c = record { queue = c.turns.invariant.ready.sound.queue }
+take_within-requires g c = record { queue = c.turns.invariant.ready.sound.queue; sums = c.turns.invariant.ready.sound.sums }
 
 pub turns-smaller : goal.turns-smaller
 turns-smaller g c = less_left _ _ _ _ _ c.in_ok-turn.ensures.less c.in-Some.ensures.fewer

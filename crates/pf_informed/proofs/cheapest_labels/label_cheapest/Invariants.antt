@@ -16,7 +16,7 @@ invariant-turns g l =
     let known = l.search.estimates.items in
     let entries = l.search.queue.entries in
     record {
-      ready : IsReady value (length keys) l.search;
+      ready : IsReady value g.C.Number.fits (length keys) l.search;
       begins : (x : g.row.N.Denot) → StandsFor eq first 0 x → StandsFor eq keys 0 x;
       searched : (h : NodeGraph g.row.N.Denot) (test : g.row.N.Denot → Bool) (least : g.row.N.Denot → ℤ)
           → led h test least l.fn.graph l.fn.estimate l.fn.search.estimates.items

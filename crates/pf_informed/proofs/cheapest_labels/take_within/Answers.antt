@@ -7,6 +7,7 @@ use Rattle.pf_informed.proofs.cheapest_labels.take_within.Goals as goal
 pub take_least-requires : goal.take_least-requires
 take_least-requires g c = record {
   queue = c.requires.queue;
+  sums = c.requires.sums;
 }
 
 pub returns-then-is_past : goal.returns-then-is_past
@@ -17,7 +18,7 @@ returns-then-is_past g c = record {
       let estimates = c.args.estimates.now.items in
       let inside : c.in-Some.taken.number < length estimates = slice_get_within estimates c.in-Some.taken.number _ t.estimated in
       let at : slice_get estimates c.in-Some.taken.number ≡ Some c.index.result.now = at_place _ _ _ _ inside (sym c.index.ensures) in
-      past_all g.C.Number.value c.args.labels.now.items estimates c.args.queue.now.entries c.take_least.new.queue.entries c.in-Some.taken.number c.in-Some.taken.cost t c.in-Some.ensures.queue c.args.best p.0 p.1 c.index.result.now at p.2;
+      past_all g.C.Number.value c.args.labels.now.items estimates c.args.queue.now.entries c.take_least.new.queue.entries c.in-Some.taken.number c.in-Some.taken.cost t c.args.best p.0 p.1 c.index.result.now at p.2;
   queue = c.in-Some.ensures.queue;
   fewer = omega (arith, c.in-Some.ensures.fewer);
 }

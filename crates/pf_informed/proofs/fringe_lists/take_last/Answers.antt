@@ -1,10 +1,13 @@
-use Rattle.std.proofs.Common.{arith}
-use Rattle.pf_informed.proofs.FringeLemmas.{last_in, rest_in, StillWait-last, StillWait-stale}
+use Rattle.std.proofs.Common.{arith, sym, ◌∙◌}
+use Rattle.pf_informed.proofs.FringeLemmas.{at_some, at_none, last_in, rest_in, StillWait-last, StillWait-stale}
 use Rattle.pf_informed.proofs.Bounds.{nothing_left}
 use Rattle.pf_informed.proofs.fringe_lists.take_last.Goals as goal
 
-pub is_lower-requires : goal.is_lower-requires
-is_lower-requires g c = c.requires.labelled c.in-Some.entry (c.entries.invariant.within c.in-Some.entry (last_in _ _ c.in-Some.entry c.in-Some.ensures.items))
+pub current_cost-requires-clause-labelled : goal.current_cost-requires-clause-labelled
+current_cost-requires-clause-labelled g c =
+    let q = c.requires.queue in
+    let l = q.labelled c.in-Some.entry (c.entries.invariant.within c.in-Some.entry (last_in _ _ c.in-Some.entry c.in-Some.ensures.items)) in
+    (l.0, l.1, l.2, l.3)
 
 pub entries-preserved : goal.entries-preserved
 entries-preserved g c =
@@ -13,7 +16,7 @@ entries-preserved g c =
     let is = c.in-Some.ensures.items in
     record {
       within = λ f h. i.within f (rest_in _ _ e is f h);
-      waits = StillWait-stale g.C.Number.value c.args.labels.now.items _ _ _ e is i.waits c.if-not-is_lower.ensures;
+      waits = StillWait-stale g.C.Number.value c.args.labels.now.items c.args.estimates.now.items _ _ _ e is i.waits (at_none _ _ c.current_cost.result (sym c.is_some.ensures ∙ c.if-is_some.false) c.current_cost.ensures);
       fewer = omega (arith, i.fewer, c.in-Some.ensures.len);
     }
 
@@ -23,17 +26,17 @@ entries-init g c = record { within = λ e h. h; waits = λ k l h w. w; fewer = o
 pub entries-smaller : goal.entries-smaller
 entries-smaller g c = omega (arith, c.in-Some.ensures.len)
 
-pub returns-then-not-is_lower : goal.returns-then-not-is_lower
-returns-then-not-is_lower g c = record {
+pub returns-then-is_some : goal.returns-then-is_some
+returns-then-is_some g c = record {
   taken =
       let i = c.entries.invariant in
       let e = c.in-Some.entry in
       let is = c.in-Some.ensures.items in
       record {
         here = i.within e (last_in _ _ e is);
-        newest = c.if-not-is_lower.ensures;
+        newest = (at_some _ _ c.current_cost.result (sym c.is_some.ensures ∙ c.if-is_some.true) c.current_cost.ensures).1.1;
         rest = λ f h. i.within f (rest_in _ _ e is f h);
-        left = StillWait-last g.C.Number.value c.args.labels.now.items _ _ _ e is i.waits;
+        left = StillWait-last g.C.Number.value c.args.labels.now.items c.args.estimates.now.items _ _ _ e is i.waits;
       };
   fewer = omega (arith, c.entries.invariant.fewer, c.in-Some.ensures.len);
 }

@@ -7,7 +7,7 @@ use Rattle.pf_informed.proofs.fringe_lists.take_last.Given as goal
 abbrev pub invariant-entries : goal.invariant-entries
 invariant-entries g l = record {
   within : (e : Entry g.row.C.Denot) → Contains l.entries.items e → Contains l.fn.entries.items e;
-  waits : StillWait g.C.Number.value l.labels.items l.fn.entries.items l.entries.items;
+  waits : StillWait g.C.Number.value l.labels.items l.estimates.items l.fn.entries.items l.entries.items;
   fewer : length l.entries.items ≤ length l.fn.entries.items;
 }
 

@@ -34,7 +34,7 @@ steps-preserved g c =
     let at = c.steps.next-index in
     let item = c.steps-item.result in
     record {
-      room = omega (arith, i.room, c.steps-test.true, e.room.0, e.room.1);
+      room = omega (arith, i.room, c.steps-test.true, e.room);
       sound = e.sound;
       here = e.relaxed.own c.args.label.now i.here;
       relaxed = Relaxed-more g.C.Number.value g.C.Number.fits c.args.estimates.now.items c.args.parent (g.C.Number.value c.args.label.now.cost) (take at c.args.row.now) _ item (λ x h. Contains-take c.args.row.now at x h) (Contains-take_here c.args.row.now at item c.steps-test.true c.steps-item.is) (λ x h. elim (Contains-take_more c.args.row.now at item x h) as (λ _. Contains (take at c.args.row.now) x ⊎ (item ≡ x)) [ inl k ↦ inl k | inr q ↦ inr (c.steps-item.is ∙ q) ]) _ _ _ _ _ _ i.relaxed e.relaxed;

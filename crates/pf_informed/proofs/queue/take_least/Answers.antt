@@ -4,25 +4,37 @@ use Rattle.pf_informed.proofs.WaitingLemmas.{taken_in, IsQueue-rest, waits_on, i
 use Rattle.pf_informed.proofs.Bounds.{none_below}
 use Rattle.pf_informed.proofs.queue.take_least.Goals as goal
 
-pub is_lower-requires : goal.is_lower-requires
-is_lower-requires g c =
+pub current_cost-requires-clause-labelled : goal.current_cost-requires-clause-labelled
+current_cost-requires-clause-labelled g c =
     let q = c.entries.invariant.queue in
     let l = q.labelled c.in-Some.entry (taken_in g.C.Number.value c.args.labels.now.items c.args.estimates.now.items _ _ c.in-Some.entry q c.in-Some.ensures.first.0) in
-    (l.0, l.1)
+    (l.0, l.1, l.2, l.3)
 
-pub returns-then-not-is_lower-clause-queue : goal.returns-then-not-is_lower-clause-queue
-returns-then-not-is_lower-clause-queue g c = IsQueue-rest g.C.Number.value c.args.labels.now.items c.args.estimates.now.items _ _ c.in-Some.entry c.entries.invariant.queue c.in-Some.ensures.first.0
-
-pub returns-then-not-is_lower-clause-taken : goal.returns-then-not-is_lower-clause-taken
-returns-then-not-is_lower-clause-taken g c = is_taken g.C.Number.value c.args.labels.now.items c.args.estimates.now.items _ _ c.in-Some.entry c.entries.invariant.queue c.in-Some.ensures.first.0 _ c.entries.invariant.waits c.if-not-is_lower.ensures c.in-Some.ensures.least
+pub returns-in-Some-current_cost : goal.returns-in-Some-current_cost
+returns-in-Some-current_cost g c =
+    let value = g.C.Number.value in
+    let labels = c.args.labels.now.items in
+    let estimates = c.args.estimates.now.items in
+    let i = c.entries.invariant in
+    let e = c.in-Some.ensures in
+    let n = c.in-Some-current_cost.ensures in
+    record {
+      queue = IsQueue-rest value labels estimates _ _ c.in-Some.entry i.queue e.first.0;
+      taken = is_taken value labels estimates _ _ c.in-Some.entry i.queue e.first.0 _ i.waits c.in-Some-current_cost.cost n.0 n.1 e.least;
+      fewer = omega (arith, e.first.1, i.fewer);
+    }
 
 pub entries-preserved : goal.entries-preserved
 entries-preserved g c =
+    let value = g.C.Number.value in
+    let labels = c.args.labels.now.items in
+    let estimates = c.args.estimates.now.items in
     let i = c.entries.invariant in
+    let e = c.in-Some.ensures in
     record {
-      queue = IsQueue-rest g.C.Number.value c.args.labels.now.items c.args.estimates.now.items _ _ c.in-Some.entry i.queue c.in-Some.ensures.first.0;
-      waits = λ k m h w. waits_on g.C.Number.value c.args.labels.now.items c.args.estimates.now.items _ _ c.in-Some.entry i.queue c.in-Some.ensures.first.0 c.if-not-is_lower.ensures k m h (i.waits k m h w);
-      fewer = omega (arith, c.in-Some.ensures.first.1, i.fewer);
+      queue = IsQueue-rest value labels estimates _ _ c.in-Some.entry i.queue e.first.0;
+      waits = λ k m h w. waits_on value labels estimates _ _ c.in-Some.entry i.queue e.first.0 c.in_default-current_cost.ensures k m h (i.waits k m h w);
+      fewer = omega (arith, e.first.1, i.fewer);
     }
 
 pub entries-init : goal.entries-init
@@ -34,9 +46,6 @@ entries-init g c = record {
 
 pub entries-smaller : goal.entries-smaller
 entries-smaller g c = omega (arith, c.in-Some.ensures.first.1)
-
-pub returns-then-not-is_lower-clause-fewer : goal.returns-then-not-is_lower-clause-fewer
-returns-then-not-is_lower-clause-fewer g c = omega (arith, c.in-Some.ensures.first.1, c.entries.invariant.fewer)
 
 pub returns : goal.returns
 returns g c =

@@ -2,7 +2,7 @@ use Rattle.std.proofs.Common.{◌≡◌, ◌∙◌, ap, sym, refl, arith, pos, l
 use Rattle.pf_core.specs.declared.labels.Label.{Label}
 use Rattle.pf_core.specs.Nodes.{StandsFor, IsStep}
 use Rattle.pf_base.proofs.Outcomes.{on_ok, on_refused, refused_as}
-use Rattle.pf_informed.proofs.InformedLemmas.{forest_begin, queue_begin, informed_begin}
+use Rattle.pf_informed.proofs.InformedLemmas.{forest_begin, queue_begin, sums_begin, informed_begin}
 use Rattle.pf_informed.proofs.LedLemmas.{led_more}
 use Rattle.pf_informed.proofs.TightLemmas.{both_ok}
 use Rattle.pf_informed.proofs.Bounds.{none_more}
@@ -28,7 +28,8 @@ returns g c =
               forest = rw begun.0 (forest_begin g.C.Number.value first nothing refl);
               few = omega (arith, labels);
               estimated = omega (arith, labels, asked, c.requires.one);
-              queue = rw (begun.0, b.estimates) (queue_begin g.C.Number.value first nothing refl c.ask.new.estimates.items begun.1.0 begun.1.1 c.begin.new.self.queue.entries begun.1.2);
+              sums = rw (begun.0, b.estimates) (sums_begin g.C.Number.value first nothing refl c.ask.new.estimates.items begun.1.0 begun.1.1 c.begin.new.self.queue.entries begun.1.3 g.C.Number.fits begun.1.2);
+              queue = rw (begun.0, b.estimates) (queue_begin g.C.Number.value first nothing refl c.ask.new.estimates.items begun.1.0 begun.1.1 c.begin.new.self.queue.entries begun.1.3);
             };
             wide = labels ∙ sym c.requires.one;
             asked = asked;
@@ -39,7 +40,7 @@ returns g c =
           let a = c.in_ok-ask.ensures.graph h least d.asked d.explores.reached in (
             rw b.estimates (led_more d a.0 a.1),
             λ passes.
-                let i = informed_begin g.C.Number.value first nothing refl c.ask.new.estimates.items w.1.0 w.1.1 c.begin.new.self.queue.entries w.1.2 g.C.Number.fits (IsStep eq h) passes (StandsFor eq keys) in
+                let i = informed_begin g.C.Number.value first nothing refl c.ask.new.estimates.items w.1.0 w.1.1 c.begin.new.self.queue.entries w.1.3 g.C.Number.fits (IsStep eq h) passes (StandsFor eq keys) in
                 rw (w.0, b.estimates, c.requires.one) i,
           ));
       refused = b.refused;

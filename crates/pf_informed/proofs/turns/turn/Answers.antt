@@ -9,7 +9,7 @@ use Rattle.pf_informed.specs.Internal.Informed.{Follows, IsInformed}
 use Rattle.pf_informed.specs.Internal.Led.{IsLed}
 use Rattle.pf_informed.specs.Internal.Waiting.{IsQueue}
 use Rattle.pf_informed.proofs.GrowingLemmas.{follows_beside, queue_beside}
-use Rattle.pf_informed.proofs.InformedLemmas.{queue_kept, informed_opened}
+use Rattle.pf_informed.proofs.InformedLemmas.{queue_kept, sums_kept, informed_opened}
 use Rattle.pf_informed.proofs.LedLemmas.{with_test, led_grown, led_more}
 use Rattle.pf_informed.proofs.TightLemmas.{both_ok}
 use Rattle.pf_informed.proofs.Bounds.{at_most_equal, wide_enough}
@@ -56,6 +56,7 @@ follow-requires-clause-sound g c =
       forest = r.sound.forest;
       few = r.sound.few;
       estimated = wide_enough _ _ _ _ r.wide c.in_ok-ask.ensures.all c.in_ok-expand.ensures.grows.more;
+      sums = sums_kept g.C.Number.value g.C.Number.fits old.labels.items old.estimates.items c.ask.new.estimates.items r.sound.estimated c.in_ok-ask.ensures.kept r.sound.sums;
       queue = queue_kept g.C.Number.value old.labels.items old.estimates.items c.ask.new.estimates.items old.queue.entries c.in_ok-ask.ensures.kept r.sound.queue;
     }
 

@@ -63,7 +63,7 @@ returns-then-is_goal g c = record {
       let begins = inv.begins start s in
       let nodes = at.1 in
       let above = led_above laws now inv.ready.asked begins g.C.Number.fits (λ x y z. g.C.Number.between_law x y z exact) (g.met.C.Zero.zero_fits_law exact)
-      labels inv.ready.wide entries inv.ready.sound.forest v.1 c.in-Some.taken.number c.in-Some.taken.cost c.take_least.new.queue.entries t c.in-Some.ensures.queue c.path_found.ensures.fits in
+      labels inv.ready.wide entries inv.ready.sound.forest v.1 c.in-Some.taken.number c.in-Some.taken.cost c.take_least.new.queue.entries t c.path_found.ensures.fits in
       led_best laws now inv.ready.asked begins g.C.Number.fits (λ x y z. g.C.Number.between_law x y z exact) (g.met.C.Zero.zero_fits_law exact)
       labels inv.ready.wide entries inv.ready.sound.forest v.1 c.in-Some.taken.number t.label t.at nodes.0 nodes.1 (λ y k. sym (told.1 y k) ∙ c.if-is_goal.true) above
       (g.M.Numbering.keys c.is_goal.new.self.discovery.nodes) c.is_goal.ensures.grows after.distinct found.0.items nodes.2 (g.C.Number.value found.1) (t.same ∙ ap g.C.Number.value (sym at.0))) c.path_found.ensures.found;
@@ -81,7 +81,7 @@ turn-requires-clause-ready g c =
     let r = c.turns.invariant.ready in
     let same = sym c.is_goal.ensures.same in
     record {
-      sound = record { forest = r.sound.forest; few = r.sound.few; estimated = r.sound.estimated; queue = c.in-Some.ensures.queue };
+      sound = record { forest = r.sound.forest; few = r.sound.few; estimated = r.sound.estimated; sums = r.sound.sums; queue = c.in-Some.ensures.queue };
       wide = r.wide ∙ same;
       asked = r.asked ∙ same;
     }
@@ -122,7 +122,7 @@ turns-preserved g c =
           let led = led_grown now laws inv.ready.asked c.is_goal.new.self goal.grows told.0.0 told.0.1 in
           let turned = n.graph h test least led in
           let still = informed_still value g.C.Number.fits (IsStep eq h) test estimates (length keys) (length between) (StandsFor eq keys) (StandsFor eq between) goal.grows goal.same labels inv.ready.wide c.turns.search.queue.entries v.1 in
-          let left = subst (λ (es : List (Entry g.row.C.Denot)). OthersWait value labels c.in-Some.taken.number c.turns.search.queue.entries es) (sym (append-nil heap)) t.left in
+          let left = subst (λ (es : List (Entry g.row.C.Denot)). OthersWait value labels estimates c.in-Some.taken.number c.turns.search.queue.entries es) (sym (append-nil heap)) t.left in
           let fails : (x : g.row.N.Denot) → StandsFor eq between c.in-Some.taken.number x → test x ≡ false = λ x k. sym (told.1 x (goal.grows.back c.in-Some.taken.number x (subst (λ (m : ℕ). c.in-Some.taken.number < m) inv.ready.wide (HasLabel-inside labels _ _ t.at)) k)) ∙ c.if-is_goal.false in
           let informed = turned.1 test c.turns.search.queue.entries [] fails left still in (
             turned.0,
@@ -178,7 +178,7 @@ pub begin-requires-clause-graph : goal.begin-requires-clause-graph
 begin-requires-clause-graph g c = c.requires.graph
 
 pub take_least-requires : goal.take_least-requires
-take_least-requires g c = record { queue = c.turns.invariant.ready.sound.queue }
+take_least-requires g c = record { queue = c.turns.invariant.ready.sound.queue; sums = c.turns.invariant.ready.sound.sums }
 
 pub turns-smaller : goal.turns-smaller
 turns-smaller g c = less_left _ _ _ _ _ c.in_ok-turn.ensures.less c.in-Some.ensures.fewer

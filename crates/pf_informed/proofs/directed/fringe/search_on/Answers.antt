@@ -119,7 +119,7 @@ turn-requires-clause-ready g c =
     let heap = c.take.new.queue.entries in
     let waiting = queue_in g.C.Number.value c.turns.search.labels.items c.turns.search.estimates.items (heap ++ listed c.take.new.self) heap c.in_ok-taken.ensures.queue (λ e h. Contains-append_left heap (listed c.take.new.self) e h) in
     record {
-      sound = record { forest = r.sound.forest; few = r.sound.few; estimated = r.sound.estimated; queue = waiting };
+      sound = record { forest = r.sound.forest; few = r.sound.few; estimated = r.sound.estimated; sums = r.sound.sums; queue = waiting };
       wide = r.wide ∙ same;
       asked = r.asked ∙ same;
     }
@@ -215,7 +215,7 @@ returns-in_err-turn g c = record {
 }
 
 pub take-requires : goal.take-requires
-take-requires g c = record { queue = c.turns.invariant.queue }
+take-requires g c = record { queue = c.turns.invariant.queue; sums = c.turns.invariant.ready.sound.sums }
 
 pub path_found-requires-clause-clones : goal.path_found-requires-clause-clones
 path_found-requires-clause-clones g c = c.requires.clones

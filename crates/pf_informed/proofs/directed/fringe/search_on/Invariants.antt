@@ -18,7 +18,7 @@ invariant-turns g l =
     let known = l.search.estimates.items in
     let entries = l.search.queue.entries ++ listed l.lists in
     record {
-      ready : IsReady value (length keys) l.search;
+      ready : IsReady value g.C.Number.fits (length keys) l.search;
       queue : IsQueue value labels known entries;
       begins : (x : g.row.N.Denot) → StandsFor eq first 0 x → StandsFor eq keys 0 x;
       searched : (h : NodeGraph g.row.N.Denot) (test : g.row.N.Denot → Bool) (least : g.row.N.Denot → ℤ)

@@ -1,14 +1,16 @@
-use Rattle.std.proofs.Common.{List, arith, subst, sym, inr, refl, inl}
+use Rattle.std.proofs.Common.{List, ◌++◌, arith, subst, sym, inr, refl, inl}
 use Rattle.pf_informed.specs.Internal.Waiting.{Entry}
 use Rattle.pf_informed.specs.Internal.Fringe.{listed, IsRaising, IsBelowWaiting}
-use Rattle.pf_informed.proofs.RaisingLemmas.{raising_start, later_labelled, raising_more, raised_below, raised_taken, raised_queue}
+use Rattle.pf_informed.proofs.RaisingLemmas.{raising_start, queue_later, raising_more, raised_below, raised_taken, raised_queue}
+use Rattle.pf_base.proofs.ListLemmas.{Contains-head}
 use Rattle.pf_base.proofs.Outcomes.{if_refused, on_refused, refused_as}
 use Rattle.pf_informed.proofs.Bounds.{none_below, without_rest, none_more}
 use Rattle.pf_informed.proofs.fringe_lists.FringeLists.raise_limit.Goals as goal
 
 pub take_last-requires : goal.take_last-requires
 take_last-requires g c = record {
-  labelled = λ e h. let q = rw c.requires.over at c.requires.queue in let l = q.labelled e h in (l.0, l.1);
+  queue = rw c.requires.over at c.requires.queue;
+  sums = c.requires.sums;
 }
 
 pub returns-in_default-clause-taken : goal.returns-in_default-clause-taken
@@ -25,7 +27,8 @@ entries-init g c =
 
 pub take_last-requires-in-entries : goal.take_last-requires-in-entries
 take_last-requires-in-entries g c = record {
-  labelled = later_labelled g.C.Number.value c.args.labels.now.items c.args.estimates.now.items _ c.entries.least c.entries.self.current.items c.entries.self.later.items c.entries.invariant.raising;
+  queue = queue_later g.C.Number.value c.args.labels.now.items c.args.estimates.now.items _ c.entries.least c.entries.self.current.items c.entries.self.later.items c.entries.invariant.raising;
+  sums = c.requires.sums;
 }
 
 pub entries-preserved : goal.entries-preserved
@@ -64,10 +67,17 @@ returns g c =
       limit =
           let b = raised_below g.C.Number.value c.args.labels.now.items c.args.estimates.now.items (listed c.args.self.now) c.entries.least c.entries.self.current.items c.entries.self.later.items c.entries.invariant.raising t.1 in
           inr (c.known.ensures, subst (IsBelowWaiting g.C.Number.value c.args.labels.now.items c.args.estimates.now.items (listed c.args.self.now)) (sym c.sum_of-self.ensures) b);
-      taken = rw t.0 (raised_taken g.C.Number.value c.args.labels.now.items c.args.estimates.now.items (listed c.args.self.now) c.entries.least c.entries.self.current.items c.entries.self.later.items c.entries.invariant.raising t.1 c.sum_of-self.result c.sum_of-self.ensures);
+      taken = rw t.0 (raised_taken g.C.Number.value c.args.labels.now.items c.args.estimates.now.items (listed c.args.self.now) c.entries.least c.entries.self.current.items c.entries.self.later.items c.entries.invariant.raising t.1 c.sum_of-self.result c.sum_of-self.ensures c.label_of.result c.label_of.ensures);
       fewer = rw c.in_default-take_last.ensures.taken.0 (without_rest c.entries.self.current.items c.entries.self.later.items _ c.entries.invariant.raising.fewer);
       refused = tt;
     }
 
 pub entries-smaller : goal.entries-smaller
 entries-smaller g c = omega (arith, c.in-Some-take_last.ensures.fewer)
+
+pub label_of-requires : goal.label_of-requires
+label_of-requires g c =
+    let r = c.entries.invariant.raising in
+    let q = r.queue in
+    let l = q.labelled c.entries.least (Contains-head (c.entries.self.current.items ++ c.entries.self.later.items) c.entries.least) in
+    (l.0, l.1)

@@ -22,6 +22,7 @@ take_within-requires g c =
     let mid = c.take_in.new.self in
     record {
       queue = queue_in g.C.Number.value c.args.labels.now.items c.args.estimates.now.items _ _ c.requires.queue (moved_from c.args.queue.now.entries old.current.items old.later.items mid.current.items mid.later.items t.same t.later);
+      sums = c.requires.sums;
     }
 
 pub returns-in_err-take_in : goal.returns-in_err-take_in
@@ -57,7 +58,7 @@ returns g c = record {
       let t = c.in_ok-take_in.ensures in
       let old = c.args.self.now in
       let mid = c.take_in.new.self in
-      let moved = moved_wait value labels c.args.queue.now.entries old.current.items old.later.items mid.current.items mid.later.items t.same t.later in
+      let moved = moved_wait value labels estimates c.args.queue.now.entries old.current.items old.later.items mid.current.items mid.later.items t.same t.later in
       let over = MatchOption-at_none _ _ c.in_default.is c.in_ok-taken.ensures.taken in
       let limit = c.raise_limit.new.self.limit in
       let first = c.args.queue.now.entries ++ listed old in
@@ -72,7 +73,7 @@ returns g c = record {
       let t = c.in_ok-take_in.ensures in
       let old = c.args.self.now in
       let mid = c.take_in.new.self in
-      let moved = moved_wait value labels c.args.queue.now.entries old.current.items old.later.items mid.current.items mid.later.items t.same t.later in
+      let moved = moved_wait value labels estimates c.args.queue.now.entries old.current.items old.later.items mid.current.items mid.later.items t.same t.later in
       let over = MatchOption-at_none _ _ c.in_default.is c.in_ok-taken.ensures.taken in
       let first = c.args.queue.now.entries ++ listed old in
       let limit = c.raise_limit.new.self.limit in
@@ -101,7 +102,7 @@ returns-in-Some g c = record {
       let t = c.in_ok-take_in.ensures in
       let old = c.args.self.now in
       let mid = c.take_in.new.self in
-      let moved = moved_wait value labels c.args.queue.now.entries old.current.items old.later.items mid.current.items mid.later.items t.same t.later in
+      let moved = moved_wait value labels estimates c.args.queue.now.entries old.current.items old.later.items mid.current.items mid.later.items t.same t.later in
       let taken = MatchOption-at_some _ _ c.in-Some.taken c.in-Some.is c.in_ok-taken.ensures.taken in
       rw t.emptied (taken_before value labels estimates _ (listed mid) moved c.in-Some.taken.number c.in-Some.taken.cost c.take_within.new.self.limit (listed c.take_within.new.self) taken);
   refused = tt;

@@ -11,10 +11,8 @@ use Rattle.pf_informed.proofs.fringe_lists.FringeLists.take_within.Goals as goal
 
 pub take_last-requires : goal.take_last-requires
 take_last-requires g c = record {
-  labelled = λ e h.
-      let q = c.entries.invariant.queue in
-      let l = q.labelled e (Contains-append_left c.entries.self.current.items c.entries.self.later.items e h) in
-      (l.0, l.1);
+  queue = queue_in g.C.Number.value c.args.labels.now.items c.args.estimates.now.items (listed c.entries.self) c.entries.self.current.items c.entries.invariant.queue (λ e h. Contains-append_left c.entries.self.current.items c.entries.self.later.items e h);
+  sums = c.requires.sums;
 }
 
 pub entries-preserved : goal.entries-preserved
@@ -30,28 +28,28 @@ entries-preserved g c =
     let pushed = c.in_ok-push.ensures.items in
     record {
       limit = i.limit;
-      queue = subst (λ (xs : List (Entry g.row.C.Denot)). IsQueue value labels c.args.estimates.now.items (current' ++ xs)) (sym pushed) (queue_put_off value labels e current current' later n.taken c.args.estimates.now.items i.queue);
-      waits = subst (λ (xs : List (Entry g.row.C.Denot)). StillWait value labels (listed c.args.self.now) (current' ++ xs)) (sym pushed) (StillWait-put_off value labels e current current' later n.taken (listed c.args.self.now) i.waits);
+      queue = subst (λ (xs : List (Entry g.row.C.Denot)). IsQueue value labels c.args.estimates.now.items (current' ++ xs)) (sym pushed) (queue_put_off value labels c.args.estimates.now.items e current current' later n.taken i.queue);
+      waits = subst (λ (xs : List (Entry g.row.C.Denot)). StillWait value labels c.args.estimates.now.items (listed c.args.self.now) (current' ++ xs)) (sym pushed) (StillWait-put_off value labels c.args.estimates.now.items e current current' later n.taken (listed c.args.self.now) i.waits);
       fewer = omega (arith, i.fewer, n.fewer, ap length pushed, length-append current' c.push.new.self.items, length-append later (e ∷ []), length-append current later);
     }
 
 pub returns-else-is_less : goal.returns-else-is_less
 returns-else-is_less g c = record {
   limit = c.entries.invariant.limit;
-  queue = queue_rest g.C.Number.value c.args.labels.now.items c.in-Some.entry c.entries.self.current.items c.take_last.new.entries.items c.entries.self.later.items c.in-Some.ensures.taken c.args.estimates.now.items c.entries.invariant.queue;
+  queue = queue_rest g.C.Number.value c.args.labels.now.items c.args.estimates.now.items c.in-Some.entry c.entries.self.current.items c.take_last.new.entries.items c.entries.self.later.items c.in-Some.ensures.taken c.entries.invariant.queue;
   taken =
       let value = g.C.Number.value in
-      let low : value c.in-Some.entry.0.0 ≤ℤ value c.entries.self.limit = omega (arith, ints, c.if-is_less.ensures, ap value c.sum_of.ensures) in
-      taken_within value c.args.labels.now.items c.in-Some.entry c.entries.self.current.items c.take_last.new.entries.items c.entries.self.later.items c.in-Some.ensures.taken c.args.estimates.now.items c.entries.self.limit (listed c.args.self.now) c.entries.invariant.queue c.entries.invariant.waits low;
+      let low : value c.in-Some.entry.0 ≤ℤ value c.entries.self.limit = omega (arith, ints, c.if-is_less.ensures, ap value c.sum_of.ensures) in
+      taken_within value c.args.labels.now.items c.args.estimates.now.items c.in-Some.entry c.entries.self.current.items c.take_last.new.entries.items c.entries.self.later.items c.in-Some.ensures.taken c.entries.self.limit (listed c.args.self.now) c.label_of.result c.label_of.ensures c.entries.invariant.queue c.entries.invariant.waits low;
   fewer = omega (arith, c.entries.invariant.fewer, c.in-Some.ensures.fewer, length-append c.entries.self.current.items c.entries.self.later.items, length-append c.take_last.new.entries.items c.entries.self.later.items);
   refused = tt;
 }
 
 pub returns-clause-queue : goal.returns-clause-queue
-returns-clause-queue g c = queue_in g.C.Number.value c.args.labels.now.items c.args.estimates.now.items (listed c.entries.self) _ c.entries.invariant.queue (none_more g.C.Number.value c.args.labels.now.items c.entries.self.current.items c.take_last.new.entries.items c.entries.self.later.items c.in_default.ensures.taken.0)
+returns-clause-queue g c = queue_in g.C.Number.value c.args.labels.now.items c.args.estimates.now.items (listed c.entries.self) _ c.entries.invariant.queue (none_more g.C.Number.value c.args.labels.now.items c.args.estimates.now.items c.entries.self.current.items c.take_last.new.entries.items c.entries.self.later.items c.in_default.ensures.taken.0)
 
 pub returns-clause-taken : goal.returns-clause-taken
-returns-clause-taken g c = (c.in_default.ensures.taken.0, rest_waits g.C.Number.value c.args.labels.now.items c.entries.self.current.items c.take_last.new.entries.items c.entries.self.later.items c.in_default.ensures.taken.0 c.in_default.ensures.taken.1 (listed c.args.self.now) c.entries.invariant.waits)
+returns-clause-taken g c = (c.in_default.ensures.taken.0, rest_waits g.C.Number.value c.args.labels.now.items c.args.estimates.now.items c.entries.self.current.items c.take_last.new.entries.items c.entries.self.later.items c.in_default.ensures.taken.0 c.in_default.ensures.taken.1 (listed c.args.self.now) c.entries.invariant.waits)
 
 pub returns-in_err-push : goal.returns-in_err-push
 returns-in_err-push g c = record {
@@ -76,3 +74,9 @@ returns-clause-refused g c = tt
 
 pub returns-clause-fewer : goal.returns-clause-fewer
 returns-clause-fewer g c = without_first _ c.entries.self.later.items c.entries.self.current.items _ c.in_default.ensures.fewer c.entries.invariant.fewer
+
+pub label_of-requires : goal.label_of-requires
+label_of-requires g c =
+    let q = c.entries.invariant.queue in
+    let l = q.labelled c.in-Some.entry (Contains-append_left c.entries.self.current.items c.entries.self.later.items c.in-Some.entry c.in-Some.ensures.taken.here) in
+    (l.0, l.1)

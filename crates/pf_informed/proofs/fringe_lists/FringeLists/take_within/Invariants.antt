@@ -7,7 +7,7 @@ abbrev pub invariant-entries : goal.invariant-entries
 invariant-entries g l = record {
   limit : l.self.limit ≡ l.fn.self.limit;
   queue : IsQueue g.C.Number.value l.labels.items l.estimates.items (listed l.self);
-  waits : StillWait g.C.Number.value l.labels.items (listed l.fn.self) (listed l.self);
+  waits : StillWait g.C.Number.value l.labels.items l.estimates.items (listed l.fn.self) (listed l.self);
   fewer : length (listed l.self) ≤ length (listed l.fn.self);
 }
 

@@ -9,7 +9,7 @@ returns-in_err-reserve g c = record {
   estimates = refl;
   labelled = on_refused _ c.from_residual.result _ c.from_residual.ensures.1;
   waiting = on_refused _ c.from_residual.result _ c.from_residual.ensures.1;
-  refused = refused_as _ c.from_residual.result _ c.from_residual.ensures.1 refl;
+  refused = refused_as _ c.from_residual.result _ c.from_residual.ensures.1 c.in_err-reserve.ensures.refused;
 }
 
 pub returns-in_err-push : goal.returns-in_err-push
@@ -20,15 +20,15 @@ returns-in_err-push g c = record {
   refused = refused_as _ c.from_residual-in_err-push.result _ c.from_residual-in_err-push.ensures.1 refl;
 }
 
-pub index-requires : goal.index-requires
-index-requires g c = omega (arith, c.requires.estimated)
+pub index-estimate-requires : goal.index-estimate-requires
+index-estimate-requires g c = omega (arith, c.requires.estimated)
 
 pub returns : goal.returns
 returns g c = record {
   estimates = refl;
-  labelled = rw (c.in_ok-push.ensures.items, c.requires.unlabelled, c.first.ensures, c.zero-nothing.ensures) refl;
+  labelled = rw (c.in_ok-push.ensures.items, c.requires.unlabelled, c.first.ensures, c.zero.ensures) refl;
   refused = tt;
   waiting =
-      let h = c.index.result.now in
-      (h, at_place c.args.self.now.estimates.items 0 h h (some_one _ c.requires.estimated) (sym c.index.ensures), rw (c.in_ok-reserve.ensures.entries, c.requires.nothing_waits, c.zero-nothing.ensures) at c.push.ensures.added);
+      let h = c.index-estimate.result.now in
+      (h, at_place c.args.self.now.estimates.items 0 h h (some_one _ c.requires.estimated) (sym c.index-estimate.ensures), c.known.ensures, rw (c.in_ok-reserve.ensures.entries, c.requires.nothing_waits) at c.push.ensures.added);
 }

@@ -40,6 +40,7 @@ relax-requires-clause-sound g c =
       forest = forest_wider g.C.Number.value labels wider w.stays w.from sound.forest;
       few = subst (λ (n : ℕ). n ≤ 2 ^ 32) (len ∙ sym wide) c.in_ok-make_room.ensures.few;
       estimated = at_most_equal _ _ wide;
+      sums = λ k l h at there. sound.sums k l h (w.from k l at) there;
       queue = rw c.in_ok-reserve.ensures.entries (queue_wider g.C.Number.value labels wider w.stays c.args.self.now.estimates.items c.args.self.now.queue.entries sound.queue);
     }
 
@@ -50,7 +51,7 @@ returns-in_err-reserve g c = record {
   followed = on_refused _ c.from_residual.result _ c.from_residual.ensures.1;
   wide = on_refused _ c.from_residual.result _ c.from_residual.ensures.1;
   less = on_refused _ c.from_residual.result _ c.from_residual.ensures.1;
-  refused = refused_as _ c.from_residual.result _ c.from_residual.ensures.1 refl;
+  refused = refused_as _ c.from_residual.result _ c.from_residual.ensures.1 c.in_err-reserve.ensures.refused;
 }
 
 pub returns-in_err-make_room : goal.returns-in_err-make_room

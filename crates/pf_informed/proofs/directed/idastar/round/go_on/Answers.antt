@@ -9,7 +9,8 @@ use Rattle.pf_deepening.specs.declared.way.Frame.{Frame}
 use Rattle.pf_deepening.specs.Ways.{IsMarked}
 use Rattle.pf_informed.specs.Internal.Deepening.{numbers_of, turns_left}
 use Rattle.pf_informed.proofs.KnownLemmas.{more_refl}
-use Rattle.pf_informed.proofs.NodeWalks.{estimate_is, estimate_at}
+use Rattle.pf_informed.proofs.EstimateLemmas.{estimate_at}
+use Rattle.pf_informed.proofs.NodeWalks.{estimate_is}
 use Rattle.pf_informed.proofs.TurnsLeft.{some_turns, advanced_less, entered_less}
 use Rattle.pf_informed.proofs.WayLemmas.{cheap_positive, marked_on, numbers_up, frame_ends, step_at, still_found, part_within, on_way_as, skipped, cost_from_zero, price_from_zero, cut_there, went_on, arrived}
 use Rattle.pf_base.proofs.Outcomes.{if_refused, on_refused, refused_as}
