@@ -1,11 +1,11 @@
 -- Groups of vertices while they are gathered, a vertex of a group at a time.
-use Rattle.std.specs.Prelude.{◌≡◌, ◌↔◌, ◌<◌, ◌^◌, ◌-◌, ℕ, suc, Bool, true, List, [], ◌∷◌, ◌++◌, Some, Vec, slice_get, length, nat_eq, Contains, map}
+use Rattle.std.specs.Prelude.{◌≡◌, ◌↔◌, ◌<◌, ◌^◌, ◌-◌, ℕ, suc, Bool, true, List, [], ◌∷◌, ◌++◌, Some, Vec, slice_get, slice_index, length, nat_eq, Contains, map}
 use Rattle.std.specs.Borrow.{Bor}
 use Rattle.std.specs.HashMap.{HashMap, get}
 use Rattle.std.specs.List.{IsDistinct}
 use Rattle.pf_union_find.specs.Joined.{Joined}
 use Rattle.pf_union_find.specs.Nodes.{StandsFor}
-use Rattle.pf_union_find.specs.Rows.{HasItem}
+use Rattle.pf_union_find.specs.Rows.{HasItem, row_count}
 use Rattle.pf_union_find.specs.UnionFind.{IsSound, IsLabelling}
 
 abbrev pub pair_with : {N : Type 0} → ℕ → N → ℕ × N
@@ -54,21 +54,29 @@ pub record MapsByFirst {N S : Type 0} (eq : N → N → Bool) (nodes : List (Bor
 abbrev pub AreDisjointSets : {N A : Type 0} → (N → N → Bool) → List (Vec N A) → List (Bor N) → List ℕ → List ℕ → Type 0
 AreDisjointSets eq groups nodes first ids = (parents : List ℕ) × (g : IsGathered eq (pairs_from 0 groups) nodes first parents) × Identifies g.label (length groups) groups ids × (length ids ≡ length groups) × (length parents ≡ length groups)
 
--- the row of each identifier has the nodes whose first group has it
-pub record AreLaidOut {N : Type 0} (nodes : List (Bor N)) (first ids : List ℕ) (rows : List ℕ × List ℕ × List (Bor N)) : Type 0 where
-  pub from : (id : ℕ) (m : Bor N) → HasItem rows id m → (k : ℕ) × (j : ℕ) × (slice_get nodes k ≡ Some m) × (slice_get first k ≡ Some j) × (slice_get ids j ≡ Some id)
-  pub all : (k : ℕ) (m : Bor N) (j id : ℕ) → slice_get nodes k ≡ Some m → slice_get first k ≡ Some j → slice_get ids j ≡ Some id → HasItem rows id m
+-- the identifiers that have nodes are numbered, and `sizes` has their counts by these numbers
+pub record AreNumbered (counts numbers sizes : List ℕ) : Type 0 where
+  pub low : (id : ℕ) → 0 < slice_index counts id → slice_index numbers id < length sizes
+  pub size : (id : ℕ) → 0 < slice_index counts id → slice_index sizes (slice_index numbers id) ≡ slice_index counts id
+  pub apart : (a b : ℕ) → 0 < slice_index counts a → 0 < slice_index counts b → slice_index numbers a ≡ slice_index numbers b → a ≡ b
+  pub owned : (p : ℕ) → p < length sizes → (id : ℕ) × (0 < slice_index counts id) × (slice_index numbers id ≡ p)
 
--- each row below n that has nodes has a set of its own
-pub record HaveSets {N T : Type 0} (eq : N → N → Bool) (has : T → N → Bool) (rows : List ℕ × List ℕ × List (Bor N)) (n : ℕ) (sets : List T) : Type 0 where
-  pub owners : List ℕ
-  pub len : length owners ≡ length sets
-  pub low : (p row : ℕ) → slice_get owners p ≡ Some row → row < n
-  pub some : (p row : ℕ) → slice_get owners p ≡ Some row → (m : Bor N) × HasItem rows row m
-  pub members : (p row : ℕ) (s : T) (x : N) → slice_get owners p ≡ Some row → slice_get sets p ≡ Some s → (has s x ≡ true) ↔ ((m : Bor N) × HasItem rows row m × (eq m.now x ≡ true))
-  pub apart : (p q row : ℕ) → slice_get owners p ≡ Some row → slice_get owners q ≡ Some row → p ≡ q
-  pub all : (row : ℕ) (m : Bor N) → row < n → HasItem rows row m → (p : ℕ) × (slice_get owners p ≡ Some row)
+-- the nodes are in rows, those whose first groups have one identifier in the row of its number
+pub record AreLaidOut {N : Type 0} (nodes : List (Bor N)) (first ids numbers : List ℕ) (rows : List ℕ × List ℕ × List (Bor N)) : Type 0 where
+  pub from : (row : ℕ) (m : Bor N) → HasItem rows row m → (k : ℕ) × (j : ℕ) × (id : ℕ) × (slice_get nodes k ≡ Some m) × (slice_get first k ≡ Some j) × (slice_get ids j ≡ Some id) × (slice_index numbers id ≡ row)
+  pub all : (k : ℕ) (m : Bor N) (j id : ℕ) → slice_get nodes k ≡ Some m → slice_get first k ≡ Some j → slice_get ids j ≡ Some id → HasItem rows (slice_index numbers id) m
 
--- the groups are in disjoint sets, and the row of each identifier has the nodes of its set
+-- the nodes are in rows, one for each identifier that a first group has
+pub record HaveRows {N : Type 0} (nodes : List (Bor N)) (first ids : List ℕ) (rows : List ℕ × List ℕ × List (Bor N)) : Type 0 where
+  pub numbers : List ℕ
+  pub laid : AreLaidOut nodes first ids numbers rows
+  pub apart : (k l i j a b : ℕ) → slice_get first k ≡ Some i → slice_get first l ≡ Some j → slice_get ids i ≡ Some a → slice_get ids j ≡ Some b → slice_index numbers a ≡ slice_index numbers b → a ≡ b
+  pub some : (row : ℕ) → row < row_count rows → (m : Bor N) × HasItem rows row m
+
+-- each set has the nodes of its row
+pub record HaveSets {N T : Type 0} (eq : N → N → Bool) (has : T → N → Bool) (rows : List ℕ × List ℕ × List (Bor N)) (sets : List T) : Type 0 where
+  pub members : (row : ℕ) (s : T) (x : N) → slice_get sets row ≡ Some s → (has s x ≡ true) ↔ ((m : Bor N) × HasItem rows row m × (eq m.now x ≡ true))
+
+-- the groups are in disjoint sets, whose nodes are in rows
 abbrev pub AreRowsOf : {N A : Type 0} → (N → N → Bool) → List (Vec N A) → List ℕ × List ℕ × List (Bor N) → Type 0
-AreRowsOf {N} {A} eq groups rows = (nodes : List (Bor N)) × (first : List ℕ) × (ids : List ℕ) × AreDisjointSets eq groups nodes first ids × AreLaidOut nodes first ids rows
+AreRowsOf {N} {A} eq groups rows = (nodes : List (Bor N)) × (first : List ℕ) × (ids : List ℕ) × AreDisjointSets eq groups nodes first ids × HaveRows nodes first ids rows

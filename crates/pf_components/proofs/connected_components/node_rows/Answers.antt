@@ -2,7 +2,7 @@ use Rattle.std.proofs.Common.{◌≡◌, sym, subst, ap, ◌∙◌, ◌<◌, len
 use Rattle.std.specs.Prelude.{slice_get}
 use Rattle.std.proofs.lemmas.Option.{slice_get-get_or}
 use Rattle.std.proofs.lemmas.Result.{IfOk-weaker}
-use Rattle.pf_components.specs.Internal.DisjointSets.{AreLaidOut}
+use Rattle.pf_components.specs.Internal.DisjointSets.{HaveRows}
 use Rattle.pf_components.proofs.PairLemmas.{first_id_below}
 use Rattle.pf_components.proofs.connected_components.node_rows.Goals as goal
 
@@ -24,10 +24,10 @@ returns g c = record {
   rows =
       let u = c.in_ok-united.united in
       IfOk-weaker c.collect_nodes.result _ _ (λ rows laid.
-      let here : AreLaidOut u.nodes.keys u.first.items u.ids.items rows =
-      subst (λ ns. AreLaidOut ns u.first.items u.ids.items rows) c.as_slice.ensures.keys
-      (subst (λ fs. AreLaidOut c.as_slice.result.now fs u.ids.items rows) c.deref.ensures.value
-      (subst (λ is. AreLaidOut c.as_slice.result.now c.deref.result.now is rows) c.deref-2.ensures.value laid)) in
+      let here : HaveRows u.nodes.keys u.first.items u.ids.items rows =
+      subst (λ ns. HaveRows ns u.first.items u.ids.items rows) c.as_slice.ensures.keys
+      (subst (λ fs. HaveRows c.as_slice.result.now fs u.ids.items rows) c.deref.ensures.value
+      (subst (λ is. HaveRows c.as_slice.result.now c.deref.result.now is rows) c.deref-2.ensures.value laid)) in
       (u.nodes.keys, u.first.items, u.ids.items, c.in_ok-united.ensures.united, here)) c.collect_nodes.ensures.collected;
   refused = c.collect_nodes.ensures.refused;
 }

@@ -32,5 +32,5 @@ loop-group-preserved g c =
     let here : c.index_mut.result.now ≡ slice_index counts id = get_or_read counts _ _ inside c.index_mut.ensures.value 0 in
     record {
       wide = let l = length-set counts id (c.index_mut.result.now + 1) in l ∙ c.loop-group.invariant.wide;
-      counted = count_more ids first i c.loop-group-test.true j refl id refl (slice_index counts) _ (length ids) (counts_set counts id (c.index_mut.result.now + 1) inside (omega (arith, here))) c.loop-group.invariant.counted;
+      counted = count_more ids first i c.loop-group-test.true j refl id refl (λ other. other < length ids) (slice_index counts) _ (λ other _. counts_set counts id (c.index_mut.result.now + 1) inside (omega (arith, here)) other) c.loop-group.invariant.counted;
     }
