@@ -62,6 +62,12 @@ module _ {C : Type 0} (value : C → ℤ) where
       ];
     }
 
+    pub bucket_shorter : (e : Entry C) (bucket' : List (Entry C)) → bucket ≡ bucket' ++ e ∷ [] → IsBucket value bucket' later sum is_below
+    bucket_shorter e bucket' is = record {
+      alike = λ f h. b.alike f (subst (λ (es : List (Entry C)). Contains es f) (sym is) (Contains-append_left bucket' (e ∷ []) f h));
+      above = b.above;
+    }
+
     pub bucket_below : (later' : List (Entry C)) → IsBucket value bucket later' sum true
     bucket_below later' = record { alike = b.alike; above = λ none. absurd (true≢false none) }
 
@@ -104,10 +110,14 @@ module _ {C : Type 0} (value : C → ℤ) where
     bucket_after is_below t b = record { alike = λ f h. b.alike f (t.kept f h); above = λ none f h. b.above none f (t.behind f h) }
 
   -- the bucket is empty, and one of the others is taken out, if there is one
-  pub later_or_none : (r : Option (Entry C)) (later later' : List (Entry C)) (sum : C) → MatchOption r ((later ≡ []) × (later' ≡ [])) (λ e. IsPermutation later (e ∷ later') × ((f : Entry C) → Contains later' f → value e.0 ≤ℤ value f.0))
+  later_or_none : (r : Option (Entry C)) (later later' : List (Entry C)) (sum : C) → MatchOption r ((later ≡ []) × (later' ≡ [])) (λ e. IsPermutation later (e ∷ later') × ((f : Entry C) → Contains later' f → value e.0 ≤ℤ value f.0))
       → MatchOption r (([] ++ later ≡ []) × ([] ++ later' ≡ [])) (λ e. IsTakenOut value e [] later [] later')
   later_or_none None later later' sum h = h
   later_or_none (Some e) later later' sum h = out_of_later e [] later [] later' sum h.0 h.1 (λ f i. absurd (omega (arith, i.1)))
+
+  pub later_taken : (bucket bucket' later later' : List (Entry C)) (sum : C) (r : Option (Entry C)) → bucket ≡ [] → bucket' ≡ [] → MatchOption r ((later ≡ []) × (later' ≡ [])) (λ e. IsPermutation later (e ∷ later') × ((f : Entry C) → Contains later' f → value e.0 ≤ℤ value f.0))
+      → MatchOption r ((bucket ++ later ≡ []) × (bucket' ++ later' ≡ [])) (λ e. IsTakenOut value e bucket later bucket' later')
+  later_taken bucket bucket' later later' sum r was now h = rw (was, now) (later_or_none r later later' sum h)
 
   -- what is taken out, where the others stood in another order before
   pub either_order : (r : Option (Entry C)) (bucket first later bucket' later' : List (Entry C)) (sum : C) → IsPermutation first later → MatchOption r ((bucket ++ later ≡ []) × (bucket' ++ later' ≡ [])) (λ e. IsTakenOut value e bucket later bucket' later')

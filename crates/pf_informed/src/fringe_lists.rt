@@ -96,7 +96,7 @@ impl<C: Cost, A: Allocator + Copy> FringeLists<C, A> {
     }
 
     /// Moves what the queue holds to the front of this round, the least sum first.
-    fn take_in(&mut self, estimates: &[C], queue: &mut Queue<C, A>) -> Result<(), PathError>
+    fn take_in(&mut self, queue: &mut Queue<C, A>) -> Result<(), PathError>
         ensures emptied { OnOk result (queue.new.entries ≡ []) }
         ensures same { OnOk result ((e : Entry C) → Contains (queue.old.entries ++ self.old.current.items) e ↔ Contains self.new.current.items e) }
         ensures later { OnOk result (self.new.later.items ≡ self.old.later.items) }
@@ -105,7 +105,7 @@ impl<C: Cost, A: Allocator + Copy> FringeLists<C, A> {
         ensures refused { IfErr result (λ e. e ≡ PathError.OutOfMemory) }
     {
         let from = self.current.len();
-        'entries: while let Some(entry) = queue.take_first(estimates) {
+        'entries: while let Some(entry) = queue.take_any() {
             self.current.push(entry)?;
         }
         reverse_from(&mut self.current, from);
@@ -200,7 +200,7 @@ impl<C: Cost, A: Allocator + Copy> FringeLists<C, A> {
             (λ _. length queue.new.entries + length (listed self.new) + 1 ≤ length queue.old.entries + length (listed self.old))) }
         ensures refused { IfErr result (λ e. e ≡ PathError.OutOfMemory) }
     {
-        self.take_in(estimates, queue)?;
+        self.take_in(queue)?;
         if let Some(taken) = self.take_within(labels, estimates)? {
             return Ok(Some(taken));
         }

@@ -123,6 +123,17 @@ impl<C: Cost, A: Allocator> Queue<C, A> {
         }
         take_front(&mut self.bucket, &mut self.later, self.sum)
     }
+
+    /// Takes out an entry: of the bucket, or else one of the least sum. The bucket is not filled.
+    pub fn take_any(&mut self) -> Option<(C, u32)>
+        ensures { MatchOption result ((self.old.entries ≡ []) × (self.new.entries ≡ []))
+            (λ e. IsPermutation self.old.entries (e ∷ self.new.entries) × (length self.new.entries + 1 ≡ length self.old.entries)) }
+    {
+        if let Some(entry) = self.bucket.pop() {
+            return Some(entry);
+        }
+        take_later(&mut self.later)
+    }
 }
 
 /// Moves the first entries to the bucket, while their sum is this one and the bucket has room.

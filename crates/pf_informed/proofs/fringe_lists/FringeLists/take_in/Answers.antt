@@ -10,12 +10,12 @@ use Rattle.pf_informed.proofs.fringe_lists.FringeLists.take_in.Goals as goal
 pub entries-preserved : goal.entries-preserved
 entries-preserved g c =
     let i = c.entries.invariant in
-    let f = c.in-Some.ensures.first in
+    let f = c.in-Some.ensures in
     let pushed = c.in_ok-push.ensures.items in
     record {
       same = λ e. (
-        (λ h. pushed_in c.entries.queue.entries c.take_first.new.self.entries c.entries.self.current.items c.push.new.self.items c.in-Some.entry f.0 pushed e ((i.same e).0 h)),
-        (λ h. (i.same e).1 (pushed_from c.entries.queue.entries c.take_first.new.self.entries c.entries.self.current.items c.push.new.self.items c.in-Some.entry f.0 pushed e h)),
+        (λ h. pushed_in c.entries.queue.entries c.take_any.new.self.entries c.entries.self.current.items c.push.new.self.items c.in-Some.entry f.0 pushed e ((i.same e).0 h)),
+        (λ h. (i.same e).1 (pushed_from c.entries.queue.entries c.take_any.new.self.entries c.entries.self.current.items c.push.new.self.items c.in-Some.entry f.0 pushed e h)),
       );
       later = i.later;
       limit = i.limit;
@@ -36,11 +36,11 @@ pub entries-init : goal.entries-init
 entries-init g c = record { same = λ e. ((λ h. h), (λ h. h)); later = refl; limit = refl; count = refl }
 
 pub entries-smaller : goal.entries-smaller
-entries-smaller g c = omega (arith, c.in-Some.ensures.first.1)
+entries-smaller g c = omega (arith, c.in-Some.ensures.1)
 
 pub reverse_from-requires : goal.reverse_from-requires
 reverse_from-requires g c =
-    let none = c.in_default.ensures.first.0 in
+    let none = c.in_default.ensures.0 in
     omega (arith, c.len-from.ensures, c.args.self.now.current.ok.0, c.entries.invariant.count, ap length none, ap length c.deref_mut.ensures.value)
 
 pub returns : goal.returns
@@ -50,14 +50,14 @@ returns g c = record {
       let before = c.entries.self.current.items in
       let after = c.reverse_from.new.elements in
       let moved = subst (λ (xs : List (Entry g.row.C.Denot)). IsPermutation xs after) c.deref_mut.ensures.value c.reverse_from.ensures in
-      let none = c.in_default.ensures.first.0 in
+      let none = c.in_default.ensures.0 in
       subst (λ (xs : List (Entry g.row.C.Denot)). (e : Entry g.row.C.Denot) → Contains (c.args.queue.now.entries ++ c.args.self.now.current.items) e ↔ Contains xs e)
       (sym (take_at after _ _ (omega (arith, length_permutation before after moved, c.deref_mut.ensures.len))))
       (λ e. (
         (λ h. Contains-permutation before after e moved (subst (λ (xs : List (Entry g.row.C.Denot)). Contains (xs ++ before) e) none ((i.same e).0 h))),
         (λ h. (i.same e).1 (subst (λ (xs : List (Entry g.row.C.Denot)). Contains (xs ++ before) e) (sym none) (Contains-permutation after before e (IsPermutation-sym before after moved) h))),
       ));
-  emptied = c.in_default.ensures.first.1;
+  emptied = c.in_default.ensures.1;
   later = c.entries.invariant.later;
   limit = c.entries.invariant.limit;
   refused = tt;
@@ -65,8 +65,8 @@ returns g c = record {
       let before = c.entries.self.current.items in
       let after = c.reverse_from.new.elements in
       let moved = subst (λ (xs : List (Entry g.row.C.Denot)). IsPermutation xs after) c.deref_mut.ensures.value c.reverse_from.ensures in
-      let none = c.in_default.ensures.first in
+      let none = c.in_default.ensures in
       let same = length_permutation before after moved in
-      subst (λ (xs : List (Entry g.row.C.Denot)). length c.take_first.new.self.entries + length xs ≡ length c.args.queue.now.entries + length c.args.self.now.current.items) (sym (take_at after _ _ (omega (arith, same, c.deref_mut.ensures.len))))
+      subst (λ (xs : List (Entry g.row.C.Denot)). length c.take_any.new.self.entries + length xs ≡ length c.args.queue.now.entries + length c.args.self.now.current.items) (sym (take_at after _ _ (omega (arith, same, c.deref_mut.ensures.len))))
       (omega (arith, same, c.entries.invariant.count, ap length none.0, ap length none.1));
 }
