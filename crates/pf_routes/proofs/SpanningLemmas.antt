@@ -6,7 +6,7 @@ use Rattle.std.specs.List.Sorted.{IsSorted}
 use Rattle.std.specs.Ordering.{nat_cmp, is_lt}
 use Rattle.std.specs.Str.{bytes_eq}
 use Rattle.std.proofs.lemmas.List.{get_or-map, length-map}
-use Rattle.std.proofs.lemmas.List.Elements.{Contains-get_or}
+use Rattle.std.proofs.lemmas.List.Elements.{Contains-append_left, Contains-append_right, Contains-get_or}
 use Rattle.std.proofs.lemmas.Bool.Decides.{nat_tests}
 use Rattle.pf_graph.specs.Spanning.{IsForest, IsLeastUnderEveryBound, AreChosenFrom, AreBelow, AreNamedApart, named}
 use Rattle.pf_graph.proofs.Spanning.NameLemmas.{forest_named, least_named}
@@ -35,6 +35,10 @@ all_in P xs h = λ k d lt. h (get_or xs k d) (Contains-get_or xs k d lt)
 
 pub of_all : {A : Type 0} (P : A → Type 0) (xs : List A) → All P xs → (x : A) → Contains xs x → P x
 of_all P xs h x c = subst P c.2 (h c.0 x c.1)
+
+-- what holds of all holds of those between some and others
+pub all_between : {A : Type 0} (P : A → Type 0) (before xs after : List A) → All P (before ++ xs ++ after) → All P xs
+all_between P before xs after h = all_in P xs (λ x c. of_all P (before ++ xs ++ after) h x (Contains-append_left (before ++ xs) after x (Contains-append_right before xs x c)))
 
 -- ---- edges between numbers of names
 

@@ -8,6 +8,7 @@ pub mod NameTable
 pub mod Graph
 pub mod Numbers
 pub mod Network
+pub mod ReadNames
 pub mod NumberedLines
 pub mod NumberedFlows
 pub mod NumberedPaths

@@ -1,22 +1,17 @@
 //! Spanning edges as text.
 
-ghost use Rattle.std.specs.Prelude.{◌≡◌, ◌++◌, ◌<◌, map, IfOk, IfErr, OnOk};
-ghost use Rattle.std.specs.List.{flat_map};
-ghost use Rattle.pf_routes.specs.Internal.NameTable.{table_len};
+ghost use Rattle.std.specs.Prelude.{◌≡◌, map, IfOk, IfErr};
 ghost use Rattle.pf_routes.specs.Internal.Parsed.{HoldsOfEdges, RefusesText};
 ghost use Rattle.pf_routes.specs.SpanningText.{AreSpanningLines};
-ghost use Rattle.pf_routes.specs.Internal.NumberedLines.{AreInTable, numbered_line, weighed_link};
+ghost use Rattle.pf_routes.specs.Internal.NumberedLines.{weighed_link};
 
+use crate::routes::edge_lines::{WeighedEdge, write_edges};
 use crate::routes::links::Link;
-use crate::routes::name_table::NameTable;
 use crate::routes::network::Linked;
-use pf_graph::undirected::kruskal::{KruskalIndices, kruskal_indices};
+use pf_graph::undirected::kruskal::kruskal_indices;
 use pf_route_io::error::RouteError;
 use std::alloc::{AllocError, Allocator};
 use std::hash::BuildHasher;
-
-/// An edge between two numbers, and its weight.
-type WeighedEdge = (usize, usize, u64);
 
 /// The links as edges with weights.
 fn weigh<A: Allocator + Copy>(alloc: A, links: &[Link]) -> Result<Vec<WeighedEdge, A>, AllocError>
@@ -27,43 +22,6 @@ fn weigh<A: Allocator + Copy>(alloc: A, links: &[Link]) -> Result<Vec<WeighedEdg
         edges.push((link.source as usize, link.target as usize, link.cost))?;
     }
     Ok(edges)
-}
-
-/// Puts the line of an edge at the end, as `A B 3`.
-fn push_line<A: Allocator + Copy>(
-    alloc: A,
-    lines: &mut Vec<u8, A>,
-    names: &NameTable<A>,
-    edge: WeighedEdge,
-) -> Result<(), AllocError>
-    requires { (edge.0 < table_len names.now) × (edge.1 < table_len names.now) }
-    ensures { OnOk result (lines.new.items ≡ lines.old.items ++ numbered_line names.now edge) }
-{
-    let (source, target, weight) = edge;
-    lines.extend_from_slice(names.name(source))?;
-    lines.push(b' ')?;
-    lines.extend_from_slice(names.name(target))?;
-    lines.push(b' ')?;
-    let digits = weight.to_string(alloc)?;
-    lines.extend_from_slice(digits.as_bytes())?;
-    lines.push(b'\n')?;
-    Ok(())
-}
-
-/// A line for each edge.
-fn write_edges<A: Allocator + Copy>(
-    alloc: A,
-    names: &NameTable<A>,
-    chosen: KruskalIndices<u64, A>,
-) -> Result<Vec<u8, A>, AllocError>
-    requires { AreInTable names.now chosen }
-    ensures { IfOk result (λ lines. lines.items ≡ flat_map (numbered_line names.now) chosen) }
-{
-    let mut lines = Vec::new(alloc);
-    for edge in chosen {
-        push_line(alloc, &mut lines, names, edge)?;
-    }
-    Ok(lines)
 }
 
 /// The lines of spanning edges of least weight, by rising weight.
