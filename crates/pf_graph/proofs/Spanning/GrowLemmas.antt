@@ -3,8 +3,8 @@ use Rattle.std.proofs.Common.{ℕ, ◌<◌, ◌≡◌, ◌≢◌, sym, ◌∙◌
 use Rattle.std.specs.Prelude.{Contains, slice_get, slice_set, ◌↔◌}
 use Rattle.std.specs.Borrow.{Bor}
 use Rattle.std.specs.Cmp.{IsEquivalence, IsTotalOrder, Equal-is}
-use Rattle.std.specs.Ordering.{ordering_then, is_eq, nat_cmp}
-use Rattle.std.specs.declared.cmp.Ordering.TheVariants.{Less, Equal, Greater}
+use Rattle.std.specs.Ordering.{ordering_then, is_eq}
+use Rattle.std.specs.declared.cmp.Ordering.TheVariants.{Equal, Greater}
 use Rattle.std.specs.declared.cmp.Reverse.{Reverse}
 use Rattle.std.proofs.lemmas.List.Elements.{Contains-push_cases}
 use Rattle.std.proofs.lemmas.Option.{slice_get_within}
@@ -12,23 +12,13 @@ use Rattle.pf_base.specs.Answers.{IsLawfulClone}
 use Rattle.pf_graph.specs.declared.undirected.steps.Step.{Step}
 use Rattle.pf_union_find.specs.Nodes.{StandsFor}
 use Rattle.pf_graph.specs.GrownTree.{RunsBetween, edge_order, Covers, LeavesByLeast, GrowsByLeast, AreChosenEitherWay}
-use Rattle.pf_graph.specs.Internal.Spanning.Frontier.{step_order, IsMarked, HasStep, Leads, AreRows, Waits, TakesLeast, NoneLeaves, IsGrown, waiting}
+use Rattle.pf_graph.specs.Internal.Spanning.Frontier.{edge_of, step_order, IsMarked, HasStep, AreRows, Waits, TakesLeast, NoneLeaves, IsGrown, waiting}
 use Rattle.pf_base.proofs.ListLemmas.{get_set}
 use Rattle.pf_graph.proofs.Spanning.ForestLemmas.{split_push}
 use Rattle.pf_graph.proofs.NumberLemmas.{numbers_alike}
 use Rattle.pf_union_find.proofs.DistinctLemmas.{distinct_one}
 use Rattle.pf_graph.proofs.Spanning.TreeLemmas.{Covers-kept, Covers-push, Covers-push_cases}
 use Rattle.pf_graph.proofs.Spanning.FrontierLemmas.{one_mark, mark_of}
-
--- what is at most another in four orders is so in the first three
-then_three : (a b c d : Ordering) → ordering_then a (ordering_then b (ordering_then c d)) ≢ Greater → ordering_then a (ordering_then b c) ≢ Greater
-then_three Less b c d n = λ g. cc
-then_three Greater b c d n = n
-then_three Equal Less c d n = λ g. cc
-then_three Equal Greater c d n = n
-then_three Equal Equal Less d n = λ g. cc
-then_three Equal Equal Equal d n = λ g. cc
-then_three Equal Equal Greater d n = n
 
 -- an empty list is not split at an element
 no_split : {E : Type 0} (before after : List E) (e : E) → [] ≡ before ++ e ∷ after → ⊥
@@ -70,17 +60,17 @@ module _ {N C : Type 0} {eq : N → N → Bool} (laws : IsEquivalence eq) (nodes
 
     module _ (covered : List Bool) (len : length covered ≡ length rows) (queue : List (Reverse (Step N C))) (w : Waits rows covered queue) (tree : List (N × N × C)) (g : IsGrown eq node_cmp cmp is_clone nodes edges start covered tree) where
       -- an edge that leaves what is covered is a step that waits, and one between covered ends leads to a covered number
-      leaving : (x y : N) (v : C) → RunsBetween edges x y v → Covers eq start tree x → (s : Step N C) × Leads s x y v s.number × (Covers eq start tree y ⊎ (IsMarked false covered s.number × Contains queue (waiting s)))
+      leaving : (x y : N) (v : C) → RunsBetween edges x y v → Covers eq start tree x → (s : Step N C) × (edge_of s ≡ (x, y, v)) × (Covers eq start tree y ⊎ (IsMarked false covered s.number × Contains queue (waiting s)))
       leaving x y v runs c =
           let a = r.all x y v runs in
           let s = a.1 in
           let at = r.from a.0 s a.2 in
-          let here : IsMarked true covered a.0 = (g.marked a.0 s.covered.now at.0).1 (subst (λ (z : N). Covers eq start tree z) (sym a.3.0) c) in
+          let here : IsMarked true covered a.0 = (g.marked a.0 (edge_of s).0 at.0).1 (subst (λ (f : N × N × C). Covers eq start tree f.0) (sym a.3) c) in
           let low : s.number < length covered = subst (λ (n : ℕ). s.number < n) (sym (len ∙ r.len)) (slice_get_within nodes s.number at.1.0 at.1.1) in (
             s,
             a.3,
             elim (mark_of covered s.number low) as (λ _. Covers eq start tree y ⊎ (IsMarked false covered s.number × Contains queue (waiting s))) [
-              | inl m ↦ inl (subst (λ (z : N). Covers eq start tree z) a.3.1 ((g.marked s.number s.new.now at.1).0 m))
+              | inl m ↦ inl (subst (λ (f : N × N × C). Covers eq start tree f.1) a.3 ((g.marked s.number (edge_of s).1 at.1).0 m))
               | inr m ↦ inr (m, w.all a.0 s here a.2 m)
             ],
           )
@@ -96,30 +86,29 @@ module _ {N C : Type 0} {eq : N → N → Bool} (laws : IsEquivalence eq) (nodes
       )
 
       -- the least step is taken
-      module _ {ceq : C → C → Bool} (agree : (x y : C) → ceq x y ≡ is_eq (cmp x y)) (lawful : IsLawfulClone ceq is_clone) (queue' : List (Reverse (Step N C))) (s : Step N C) (t : TakesLeast node_cmp cmp covered queue queue' s) (u : C) (clone : is_clone s.weight.now u) where
+      module _ {ceq : C → C → Bool} (agree : (x y : C) → ceq x y ≡ is_eq (cmp x y)) (lawful : IsLawfulClone ceq is_clone) (queue' : List (Reverse (Step N C))) (s : Step N C) (t : TakesLeast node_cmp cmp covered queue queue' s) (u : C) (clone : is_clone (edge_of s).2 u) where
         abbrev edge : N × N × C
-        edge = (s.covered.now, s.new.now, u)
+        edge = ((edge_of s).0, (edge_of s).1, u)
 
-        tied : cmp s.weight.now u ≡ Equal
-        tied = (Equal-is (cmp s.weight.now u)).0 (sym (agree s.weight.now u) ∙ lawful s.weight.now u clone)
+        tied : cmp (edge_of s).2 u ≡ Equal
+        tied = (Equal-is (cmp (edge_of s).2 u)).0 (sym (agree (edge_of s).2 u) ∙ lawful (edge_of s).2 u clone)
 
         place : (k : ℕ) × IsMarked true covered k × HasStep rows k s
         place = w.from (waiting s) t.waited
 
-        at : StandsFor eq nodes place.0 s.covered.now × StandsFor eq nodes s.number s.new.now × RunsBetween edges s.covered.now s.new.now s.weight.now
+        at : StandsFor eq nodes place.0 (edge_of s).0 × StandsFor eq nodes s.number (edge_of s).1 × RunsBetween edges (edge_of s).0 (edge_of s).1 (edge_of s).2
         at = r.from place.0 s place.2
 
-        -- the order of steps is that of the edges
-        edge_least : (x y : N) (v : C) (z : Step N C) → Leads z x y v z.number → step_order node_cmp cmp s z ≢ Greater → edge_order node_cmp cmp edge (x, y, v) ≢ Greater
-        edge_least x y v z l n =
-            let three : ordering_then (cmp s.weight.now z.weight.now) (ordering_then (node_cmp s.covered.now z.covered.now) (node_cmp s.new.now z.new.now)) ≢ Greater = then_three (cmp s.weight.now z.weight.now) (node_cmp s.covered.now z.covered.now) (node_cmp s.new.now z.new.now) (nat_cmp s.number z.number) n in
-            let weighed : edge_order node_cmp cmp edge (z.covered.now, z.new.now, z.weight.now) ≢ Greater = subst (λ (o : Ordering). ordering_then o (ordering_then (node_cmp s.covered.now z.covered.now) (node_cmp s.new.now z.new.now)) ≢ Greater) (total.congr s.weight.now u z.weight.now tied) three in
-            subst (λ (f : N × N × C). edge_order node_cmp cmp edge f ≢ Greater) (λ i. (l.0 i, l.1 i, l.2 i)) weighed
+        -- the clone of the weight stands in its place
+        edge_least : (x y : N) (v : C) (z : Step N C) → edge_of z ≡ (x, y, v) → step_order node_cmp cmp s z ≢ Greater → edge_order node_cmp cmp edge (x, y, v) ≢ Greater
+        edge_least x y v z is n =
+            let least : edge_order node_cmp cmp (edge_of s) (x, y, v) ≢ Greater = subst (λ (f : N × N × C). edge_order node_cmp cmp (edge_of s) f ≢ Greater) is n in
+            subst (λ (o : Ordering). ordering_then o (ordering_then (node_cmp (edge_of s).0 x) (node_cmp (edge_of s).1 y)) ≢ Greater) (total.congr (edge_of s).2 u v tied) least
 
         leaves : LeavesByLeast eq node_cmp cmp edges start tree edge
         leaves = record {
-          from_covered = (g.marked place.0 s.covered.now at.0).0 place.1;
-          to_new = λ c. one_mark covered s.number ((g.marked s.number s.new.now at.1).1 c) t.new;
+          from_covered = (g.marked place.0 (edge_of s).0 at.0).0 place.1;
+          to_new = λ c. one_mark covered s.number ((g.marked s.number (edge_of s).1 at.1).1 c) t.new;
           least = λ x y v runs c n.
               let l = leaving x y v runs c in
               elim l.2 as (λ _. edge_order node_cmp cmp edge (x, y, v) ≢ Greater) [
@@ -128,9 +117,9 @@ module _ {N C : Type 0} {eq : N → N → Bool} (laws : IsEquivalence eq) (nodes
               ];
         }
 
-        pub IsGrown-push : IsGrown eq node_cmp cmp is_clone nodes edges start (slice_set covered s.number true) (tree ++ (s.covered.now, s.new.now, u) ∷ [])
+        pub IsGrown-push : IsGrown eq node_cmp cmp is_clone nodes edges start (slice_set covered s.number true) (tree ++ ((edge_of s).0, (edge_of s).1, u) ∷ [])
         IsGrown-push = record {
-          marked = marks_more edges rows r covered s.number s.new.now (λ x. Covers eq start tree x) (λ x. Covers eq start (tree ++ edge ∷ []) x) (slice_get_within covered s.number false t.new) at.1 g.marked (λ x. (
+          marked = marks_more edges rows r covered s.number (edge_of s).1 (λ x. Covers eq start tree x) (λ x. Covers eq start (tree ++ edge ∷ []) x) (slice_get_within covered s.number false t.new) at.1 g.marked (λ x. (
             λ c. Covers-push_cases laws start tree edge x c,
             λ c. elim c as (λ _. Covers eq start (tree ++ edge ∷ []) x) [ inl k ↦ Covers-kept laws start tree edge x k | inr k ↦ Covers-push laws start tree edge x k ],
           ));
@@ -141,7 +130,7 @@ module _ {N C : Type 0} {eq : N → N → Bool} (laws : IsEquivalence eq) (nodes
           written = record {
             as_written = λ e c. elim (Contains-push_cases tree edge e c) as (λ _. (v : C) × RunsBetween edges e.0 e.1 v × is_clone v e.2) [
               | inl k ↦ g.written.as_written e k
-              | inr k ↦ subst (λ (f : N × N × C). (v : C) × RunsBetween edges f.0 f.1 v × is_clone v f.2) k (s.weight.now, at.2, clone)
+              | inr k ↦ subst (λ (f : N × N × C). (v : C) × RunsBetween edges f.0 f.1 v × is_clone v f.2) k ((edge_of s).2, at.2, clone)
             ];
           };
         }

@@ -10,7 +10,7 @@ use Rattle.pf_graph.specs.declared.undirected.weighed.Weighed.{Weighed}
 use Rattle.pf_graph.specs.Internal.NumberedEdges.{IsNumbered}
 use Rattle.pf_union_find.specs.Nodes.{StandsFor}
 use Rattle.pf_graph.specs.GrownTree.{RunsBetween}
-use Rattle.pf_graph.specs.Internal.Spanning.Frontier.{Leads, HasStep, HoldSteps, AreRows}
+use Rattle.pf_graph.specs.Internal.Spanning.Frontier.{turned, edge_of, Leads, HasStep, HoldSteps, AreRows}
 use Rattle.pf_base.proofs.ListLemmas.{get_push, get_set}
 
 module _ {N C A : Type 0} where
@@ -64,16 +64,16 @@ module _ {N C A : Type 0} where
   -- the steps over one edge more
   pub HoldSteps-more : {W : Type 0} (edges : List (ℕ × ℕ × Weighed N C W)) (i : ℕ) (e : ℕ × ℕ × Weighed N C W) (onward backward : Step N C) (rows between after : List (Vec (Step N C) A))
       → i < length edges → e ≡ get_or edges i e
-      → Leads onward e.2.edge.now.0 e.2.edge.now.1 e.2.edge.now.2 e.1 → Leads backward e.2.edge.now.1 e.2.edge.now.0 e.2.edge.now.2 e.0
+      → Leads onward e.2.edge.now e.1 → Leads backward (turned e.2.edge.now) e.0
       → AddsStep e.0 onward rows between → AddsStep e.1 backward between after
       → HoldSteps (take i edges) rows → HoldSteps (take (i + 1) edges) after
   HoldSteps-more {W} edges i e onward backward rows between after inside at to back first second h = record {
     from = λ k s c. elim ((second k s).0 c) as (λ _. From k s) [
       | inl b ↦ elim ((first k s).0 b) as (λ _. From k s) [
         | inl a ↦ let r = h.from k s a in (r.0, wider r.0 r.1, r.2)
-        | inr a ↦ (e, here, inl (a.0, subst (λ (t : Step N C). Leads t e.2.edge.now.0 e.2.edge.now.1 e.2.edge.now.2 e.1) (sym a.1) to))
+        | inr a ↦ (e, here, inl (a.0, subst (λ (t : Step N C). Leads t e.2.edge.now e.1) (sym a.1) to))
       ]
-      | inr b ↦ (e, here, inr (b.0, subst (λ (t : Step N C). Leads t e.2.edge.now.1 e.2.edge.now.0 e.2.edge.now.2 e.0) (sym b.1) back))
+      | inr b ↦ (e, here, inr (b.0, subst (λ (t : Step N C). Leads t (turned e.2.edge.now) e.0) (sym b.1) back))
     ];
     all = λ f c. elim (Contains-push_cases (take i edges) e f (subst (λ xs. Contains xs f) more c)) as (λ _. Both f) [
       | inl a ↦ let r = h.all f a in ((r.0.0, kept f.0 r.0.0 r.0.1, r.0.2), (r.1.0, kept f.1 r.1.0 r.1.1, r.1.2))
@@ -95,34 +95,34 @@ module _ {N C A : Type 0} where
 
       From : ℕ → Step N C → Type 0
       From k s = (f : ℕ × ℕ × Weighed N C W) × Contains (take (i + 1) edges) f
-          × (((k ≡ f.0) × Leads s f.2.edge.now.0 f.2.edge.now.1 f.2.edge.now.2 f.1) ⊎ ((k ≡ f.1) × Leads s f.2.edge.now.1 f.2.edge.now.0 f.2.edge.now.2 f.0))
+          × (((k ≡ f.0) × Leads s f.2.edge.now f.1) ⊎ ((k ≡ f.1) × Leads s (turned f.2.edge.now) f.0))
 
       Both : ℕ × ℕ × Weighed N C W → Type 0
-      Both f = ((s : Step N C) × HasStep after f.0 s × Leads s f.2.edge.now.0 f.2.edge.now.1 f.2.edge.now.2 f.1) × ((s : Step N C) × HasStep after f.1 s × Leads s f.2.edge.now.1 f.2.edge.now.0 f.2.edge.now.2 f.0)
+      Both f = ((s : Step N C) × HasStep after f.0 s × Leads s f.2.edge.now f.1) × ((s : Step N C) × HasStep after f.1 s × Leads s (turned f.2.edge.now) f.0)
 
   -- the rows of numbered edges are those of the edges
   module _ {W : Type 0} {eq : N → N → Bool} (nodes : List (Bor N)) (edges : List (N × N × C)) (numbered : List (ℕ × ℕ × Weighed N C W)) (rows : List (Vec (Step N C) A)) (n : IsNumbered eq nodes edges numbered) (h : HoldSteps numbered rows) where
     -- an edge from x to y that a step leads over, onward or backward
-    runs_onward : (s : Step N C) (f : N × N × C) (i : ℕ) → Contains edges f → Leads s f.0 f.1 f.2 i → RunsBetween edges s.covered.now s.new.now s.weight.now
-    runs_onward s f i c l = inl (subst (λ (d : N × N × C). Contains edges d) (λ j. (sym l.0 j, sym l.1 j, sym l.2 j)) c)
+    runs_onward : (s : Step N C) (f : N × N × C) (i : ℕ) → Contains edges f → Leads s f i → RunsBetween edges (edge_of s).0 (edge_of s).1 (edge_of s).2
+    runs_onward s f i c l = inl (subst (λ (d : N × N × C). Contains edges d) (sym l.0) c)
 
-    runs_backward : (s : Step N C) (f : N × N × C) (i : ℕ) → Contains edges f → Leads s f.1 f.0 f.2 i → RunsBetween edges s.covered.now s.new.now s.weight.now
-    runs_backward s f i c l = inr (subst (λ (d : N × N × C). Contains edges d) (λ j. (sym l.1 j, sym l.0 j, sym l.2 j)) c)
+    runs_backward : (s : Step N C) (f : N × N × C) (i : ℕ) → Contains edges f → Leads s (turned f) i → RunsBetween edges (edge_of s).0 (edge_of s).1 (edge_of s).2
+    runs_backward s f i c l = inr (subst (λ (d : N × N × C). Contains edges d) (ap turned (sym l.0)) c)
 
     stands : (k j : ℕ) (x y : N) → k ≡ j → x ≡ y → StandsFor eq nodes j y → StandsFor eq nodes k x
     stands k j x y p q s = subst (λ (i : ℕ). StandsFor eq nodes i x) (sym p) (subst (λ (z : N). StandsFor eq nodes j z) (sym q) s)
 
-    step_from : (x y : N) (w : C) → Contains edges (x, y, w) → (k : ℕ) × (s : Step N C) × HasStep rows k s × Leads s x y w s.number
+    step_from : (x y : N) (w : C) → Contains edges (x, y, w) → (k : ℕ) × (s : Step N C) × HasStep rows k s × (edge_of s ≡ (x, y, w))
     step_from x y w c =
         let r = n.all (x, y, w) c in
         let b = (h.all r.0 r.1).0 in
-        (r.0.0, b.0, b.1, (b.2.0 ∙ ap (λ (d : N × N × C). d.0) r.2, b.2.1 ∙ ap (λ (d : N × N × C). d.1) r.2, b.2.2 ∙ ap (λ (d : N × N × C). d.2) r.2, refl))
+        (r.0.0, b.0, b.1, b.2.0 ∙ r.2)
 
-    step_back : (x y : N) (w : C) → Contains edges (y, x, w) → (k : ℕ) × (s : Step N C) × HasStep rows k s × Leads s x y w s.number
+    step_back : (x y : N) (w : C) → Contains edges (y, x, w) → (k : ℕ) × (s : Step N C) × HasStep rows k s × (edge_of s ≡ (x, y, w))
     step_back x y w c =
         let r = n.all (y, x, w) c in
         let b = (h.all r.0 r.1).1 in
-        (r.0.1, b.0, b.1, (b.2.0 ∙ ap (λ (d : N × N × C). d.1) r.2, b.2.1 ∙ ap (λ (d : N × N × C). d.0) r.2, b.2.2 ∙ ap (λ (d : N × N × C). d.2) r.2, refl))
+        (r.0.1, b.0, b.1, b.2.0 ∙ ap turned r.2)
 
     pub AreRows-numbered : length rows ≡ length nodes → AreRows eq nodes edges rows
     AreRows-numbered len = record {
@@ -131,9 +131,9 @@ module _ {N C A : Type 0} where
       from = λ k s c.
           let r = h.from k s c in
           let at = n.from r.0 r.1 in
-          elim r.2 as (λ _. StandsFor eq nodes k s.covered.now × StandsFor eq nodes s.number s.new.now × RunsBetween edges s.covered.now s.new.now s.weight.now) [
-            | inl l ↦ (stands k r.0.0 _ _ l.0 l.1.0 at.1, stands s.number r.0.1 _ _ l.1.3 l.1.1 at.2, runs_onward s r.0.2.edge.now r.0.1 at.0 l.1)
-            | inr l ↦ (stands k r.0.1 _ _ l.0 l.1.0 at.2, stands s.number r.0.0 _ _ l.1.3 l.1.1 at.1, runs_backward s r.0.2.edge.now r.0.0 at.0 l.1)
+          elim r.2 as (λ _. StandsFor eq nodes k (edge_of s).0 × StandsFor eq nodes s.number (edge_of s).1 × RunsBetween edges (edge_of s).0 (edge_of s).1 (edge_of s).2) [
+            | inl l ↦ (stands k r.0.0 _ _ l.0 (ap (λ (d : N × N × C). d.0) l.1.0) at.1, stands s.number r.0.1 _ _ l.1.1 (ap (λ (d : N × N × C). d.1) l.1.0) at.2, runs_onward s r.0.2.edge.now r.0.1 at.0 l.1)
+            | inr l ↦ (stands k r.0.1 _ _ l.0 (ap (λ (d : N × N × C). d.0) l.1.0) at.2, stands s.number r.0.0 _ _ l.1.1 (ap (λ (d : N × N × C). d.1) l.1.0) at.1, runs_backward s r.0.2.edge.now r.0.0 at.0 l.1)
           ];
-      all = λ x y w r. elim r as (λ _. (k : ℕ) × (s : Step N C) × HasStep rows k s × Leads s x y w s.number) [ inl c ↦ step_from x y w c | inr c ↦ step_back x y w c ];
+      all = λ x y w r. elim r as (λ _. (k : ℕ) × (s : Step N C) × HasStep rows k s × (edge_of s ≡ (x, y, w))) [ inl c ↦ step_from x y w c | inr c ↦ step_back x y w c ];
     }

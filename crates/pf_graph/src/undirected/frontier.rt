@@ -52,7 +52,7 @@ where
         (λ s. TakesLeast N.cmp C.cmp covered.now (heap_items queue.old) (heap_items queue.new) s) }
 {
     'entries: while let Some(entry) = pop_least(queue) {
-        if !covered[entry.0.number] {
+        if !covered[entry.0.number as usize] {
             return Some(entry.0);
         }
     }
@@ -76,7 +76,7 @@ where
     ensures refused { IfErr result (λ e. e ≡ OutOfMemory) }
 {
     'steps: for step in row {
-        if !covered[step.number] {
+        if !covered[step.number as usize] {
             queue.push(Reverse(*step))?;
         }
     }

@@ -45,8 +45,9 @@ where
     let mut tree = Vec::new(alloc);
     cover(covered, &mut queue, rows, start)?;
     'turns: while let Some(step) = next_leaving(covered, &mut queue) {
-        tree.push((step.covered, step.new, step.weight.clone()?))?;
-        cover(covered, &mut queue, rows, step.number)?;
+        let edge = step.taken();
+        tree.push((edge.covered, edge.new, edge.weight.clone()?))?;
+        cover(covered, &mut queue, rows, step.number as usize)?;
     }
     Ok(tree)
 }

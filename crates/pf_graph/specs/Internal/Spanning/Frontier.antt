@@ -2,26 +2,43 @@
 use Rattle.std.specs.Prelude.{◌≡◌, ◌≢◌, ◌⊎◌, ◌↔◌, ℕ, Bool, true, false, List, ◌∷◌, ◌++◌, Some, Vec, Contains, length, slice_get}
 use Rattle.std.specs.Borrow.{Bor}
 use Rattle.std.specs.List.{IsDistinct}
-use Rattle.std.specs.Ordering.{ordering_then, nat_cmp}
+use Rattle.std.specs.Cmp.{IsTotalOrder, on_total, then_total}
 use Rattle.std.specs.declared.cmp.Ordering.{Ordering}
 use Rattle.std.specs.declared.cmp.Ordering.TheVariants.{Greater}
 use Rattle.std.specs.declared.cmp.Reverse.{Reverse}
 use Rattle.pf_graph.specs.declared.undirected.steps.Step.{Step}
 use Rattle.pf_graph.specs.declared.undirected.weighed.Weighed.{Weighed}
 use Rattle.pf_union_find.specs.Nodes.{StandsFor}
-use Rattle.pf_graph.specs.GrownTree.{RunsBetween, Covers, LeavesByLeast, AreChosenEitherWay}
+use Rattle.pf_graph.specs.GrownTree.{RunsBetween, Covers, LeavesByLeast, AreChosenEitherWay, edge_order}
 
--- steps in order of weight, then of the ends that they come from, then of the ends that they lead to, then of their numbers
+-- an edge, written the other way round
+abbrev pub turned : {N C : Type 0} → (N × N × C) → N × N × C
+turned e = (e.1, e.0, e.2)
+
+-- an edge as it is taken: as it is written, or the other way round
+abbrev pub taken : {N C : Type 0} → Bool → (N × N × C) → N × N × C
+taken true e = e
+taken false e = turned e
+
+-- the edge that a step takes, from the end that it comes from to the end that it leads to
+abbrev pub edge_of : {N C : Type 0} → Step N C → N × N × C
+edge_of s = taken s.onward s.edge.now
+
+-- steps in order of weight, then of the ends that they come from, then of the ends that they lead to
 abbrev pub step_order : {N C : Type 0} → (N → N → Ordering) → (C → C → Ordering) → Step N C → Step N C → Ordering
-step_order node_cmp cmp s t = ordering_then (cmp s.weight.now t.weight.now) (ordering_then (node_cmp s.covered.now t.covered.now) (ordering_then (node_cmp s.new.now t.new.now) (nat_cmp s.number t.number)))
+step_order node_cmp cmp s t = edge_order node_cmp cmp (edge_of s) (edge_of t)
+
+-- steps have a total order where nodes and weights have one
+pub step_order_total : {N C : Type 0} {node_cmp : N → N → Ordering} {cmp : C → C → Ordering} → IsTotalOrder node_cmp → IsTotalOrder cmp → IsTotalOrder (step_order node_cmp cmp)
+step_order_total nodes weights = on_total edge_of (then_total (on_total (λ e. e.2) weights) (then_total (on_total (λ e. e.0) nodes) (on_total (λ e. e.1) nodes)))
 
 -- the least step comes first
 abbrev pub waiting_order : {N C : Type 0} → (N → N → Ordering) → (C → C → Ordering) → Reverse (Step N C) → Reverse (Step N C) → Ordering
 waiting_order node_cmp cmp r t = step_order node_cmp cmp t.0 r.0
 
--- s leads from x to y, which has the number n, by an edge of weight w
-abbrev pub Leads : {N C : Type 0} → Step N C → N → N → C → ℕ → Type 0
-Leads s x y w n = (s.covered.now ≡ x) × (s.new.now ≡ y) × (s.weight.now ≡ w) × (s.number ≡ n)
+-- s takes the edge e, which leads to the number n
+abbrev pub Leads : {N C : Type 0} → Step N C → (N × N × C) → ℕ → Type 0
+Leads s e n = (edge_of s ≡ e) × (s.number ≡ n)
 
 -- the row of number k has the step
 abbrev pub HasStep : {N C A : Type 0} → List (Vec (Step N C) A) → ℕ → Step N C → Type 0
@@ -30,17 +47,17 @@ HasStep {N} {C} {A} rows k s = (row : Vec (Step N C) A) × (slice_get rows k ≡
 -- each edge gives a step to the row of each of its ends, and the rows have no other steps
 pub record HoldSteps {N C W A : Type 0} (numbered : List (ℕ × ℕ × Weighed N C W)) (rows : List (Vec (Step N C) A)) : Type 0 where
   pub from : (k : ℕ) (s : Step N C) → HasStep rows k s → (e : ℕ × ℕ × Weighed N C W) × Contains numbered e
-      × (((k ≡ e.0) × Leads s e.2.edge.now.0 e.2.edge.now.1 e.2.edge.now.2 e.1) ⊎ ((k ≡ e.1) × Leads s e.2.edge.now.1 e.2.edge.now.0 e.2.edge.now.2 e.0))
+      × (((k ≡ e.0) × Leads s e.2.edge.now e.1) ⊎ ((k ≡ e.1) × Leads s (turned e.2.edge.now) e.0))
   pub all : (e : ℕ × ℕ × Weighed N C W) → Contains numbered e
-      → ((s : Step N C) × HasStep rows e.0 s × Leads s e.2.edge.now.0 e.2.edge.now.1 e.2.edge.now.2 e.1)
-      × ((s : Step N C) × HasStep rows e.1 s × Leads s e.2.edge.now.1 e.2.edge.now.0 e.2.edge.now.2 e.0)
+      → ((s : Step N C) × HasStep rows e.0 s × Leads s e.2.edge.now e.1)
+      × ((s : Step N C) × HasStep rows e.1 s × Leads s (turned e.2.edge.now) e.0)
 
 -- the nodes are apart, and the row of each has the steps from it over both directions of the edges
 pub record AreRows {N C A : Type 0} (eq : N → N → Bool) (nodes : List (Bor N)) (edges : List (N × N × C)) (rows : List (Vec (Step N C) A)) : Type 0 where
   pub apart : IsDistinct (λ (p q : Bor N). eq p.now q.now) nodes
   pub len : length rows ≡ length nodes
-  pub from : (k : ℕ) (s : Step N C) → HasStep rows k s → StandsFor eq nodes k s.covered.now × StandsFor eq nodes s.number s.new.now × RunsBetween edges s.covered.now s.new.now s.weight.now
-  pub all : (x y : N) (w : C) → RunsBetween edges x y w → (k : ℕ) × (s : Step N C) × HasStep rows k s × Leads s x y w s.number
+  pub from : (k : ℕ) (s : Step N C) → HasStep rows k s → StandsFor eq nodes k (edge_of s).0 × StandsFor eq nodes s.number (edge_of s).1 × RunsBetween edges (edge_of s).0 (edge_of s).1 (edge_of s).2
+  pub all : (x y : N) (w : C) → RunsBetween edges x y w → (k : ℕ) × (s : Step N C) × HasStep rows k s × (edge_of s ≡ (x, y, w))
 
 -- number k is marked as covered, or as not covered
 abbrev pub IsMarked : Bool → List Bool → ℕ → Type 0

@@ -1,33 +1,17 @@
-use Rattle.std.proofs.Common.{rules, ◌≡◌, ◌≢◌, ◌<◌, ◌∙◌, ap, sym, subst, arith, ℕ, zero, suc, List, [], ◌∷◌, length, Option, Some, None, false, refl}
+use Rattle.std.proofs.Common.{rules, ◌≡◌, ◌<◌, ◌∙◌, sym, subst, arith, ℕ, zero, suc, List, [], ◌∷◌, length, Option, Some, None, false, refl}
 use Rattle.std.specs.Prelude.{IfSome, IfNone, MatchOption, Contains, IsPermutation, slice_index_or}
 use Rattle.std.specs.BinaryHeap.{IsHeap, IsUpperBound, heap_items, heap_len}
 use Rattle.std.specs.List.{AllByRecursion}
-use Rattle.std.specs.Cmp.{IsTotalOrder}
-use Rattle.std.specs.Ordering.{is_lt, ordering_then, ordering_reverse}
+use Rattle.std.specs.Ordering.{is_lt}
 use Rattle.std.specs.declared.cmp.Ordering.{Ordering}
-use Rattle.std.specs.declared.cmp.Ordering.TheVariants.{Less, Equal, Greater}
-use Rattle.std.proofs.lemmas.Cmp.{nat_cmp_total}
-use Rattle.pf_graph.specs.declared.undirected.steps.Step.{Step}
-use Rattle.pf_graph.specs.Internal.Spanning.Frontier.{step_order, waiting_order}
-use Rattle.pf_graph.proofs.Spanning.OrderLemmas.{lt_reverse}
+use Rattle.pf_graph.specs.Internal.Spanning.Frontier.{step_order_total, waiting_order}
+use Rattle.pf_graph.proofs.Spanning.OrderLemmas.{at_most}
 use Rattle.pf_graph.proofs.undirected.frontier.pop_least.Goals as goal
 
 -- a heap in order stays so, whether it is empty or gives its top
 stays_ordered : {X : Type 0} (L : Type 0) (order : X → X → Ordering) (P : X → Type 0) (old new : List X) (r : Option X) → IsHeap order old → IfNone r ((new ≡ old) × L) → IfSome r (λ x. IsHeap order old → IsHeap order new × P x) → IsHeap order new
 stays_ordered L order P old new None h unchanged popped = subst (IsHeap order) (sym unchanged.0) h
 stays_ordered L order P old new (Some x) h unchanged popped = (popped h).0
-
--- an order by two keys turns round where the orders by each do
-then_reverse : (a b a' b' : Ordering) → a ≡ ordering_reverse a' → b ≡ ordering_reverse b' → ordering_then a b ≡ ordering_reverse (ordering_then a' b')
-then_reverse a b Less b' e f = ap (λ o. ordering_then o b) e
-then_reverse a b Equal b' e f = ap (λ o. ordering_then o b) e ∙ f
-then_reverse a b Greater b' e f = ap (λ o. ordering_then o b) e
-
--- where the second step is not below the first, the first is at most the second
-at_most : {N C : Type 0} (node_cmp : N → N → Ordering) (cmp : C → C → Ordering) → IsTotalOrder node_cmp → IsTotalOrder cmp → (s t : Step N C) → is_lt (step_order node_cmp cmp t s) ≡ false → step_order node_cmp cmp s t ≢ Greater
-at_most node_cmp cmp nodes weights s t e =
-    let turned : step_order node_cmp cmp s t ≡ ordering_reverse (step_order node_cmp cmp t s) = then_reverse _ _ _ _ (weights.antisymm s.weight.now t.weight.now) (then_reverse _ _ _ _ (nodes.antisymm s.covered.now t.covered.now) (then_reverse _ _ _ _ (nodes.antisymm s.new.now t.new.now) (nat_cmp_total.antisymm s.number t.number))) in
-    λ above. lt_reverse (step_order node_cmp cmp t s) e (sym turned ∙ above)
 
 -- what holds of each element holds of one that a list has
 holds_of : {X : Type 0} (P : X → Type 0) (xs : List X) (x : X) → AllByRecursion P xs → (k : ℕ) → k < length xs → slice_index_or xs k x ≡ x → P x
@@ -52,6 +36,6 @@ returns g c = record {
   ordered = stays_ordered _ (waiting_order g.N.Ord.cmp g.C.Ord.cmp) _ (heap_items c.args.queue.now) (heap_items c.pop.new.self) c.pop.result c.requires c.pop.ensures.unchanged c.pop.ensures.heap_order;
   least =
       let len : heap_len c.args.queue.now ≡ length (heap_items c.args.queue.now) = search rules in
-      pops_least _ (waiting_order g.N.Ord.cmp g.C.Ord.cmp) _ (λ r t. at_most g.N.Ord.cmp g.C.Ord.cmp g.met.N.Ord.total g.met.C.Ord.total r.0 t.0) (heap_len c.args.queue.now) (heap_items c.args.queue.now) (heap_items c.pop.new.self) c.pop.result len c.requires c.pop.ensures.none c.pop.ensures.unchanged c.pop.ensures.permutation c.pop.ensures.heap_order;
+      pops_least _ (waiting_order g.N.Ord.cmp g.C.Ord.cmp) _ (λ r t. at_most (step_order_total g.met.N.Ord.total g.met.C.Ord.total) r.0 t.0) (heap_len c.args.queue.now) (heap_items c.args.queue.now) (heap_items c.pop.new.self) c.pop.result len c.requires c.pop.ensures.none c.pop.ensures.unchanged c.pop.ensures.permutation c.pop.ensures.heap_order;
   len = c.pop.ensures.len;
 }

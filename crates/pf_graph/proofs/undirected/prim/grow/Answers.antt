@@ -1,4 +1,4 @@
-use Rattle.std.proofs.Common.{◌<◌, ◌∙◌, sym, ap, subst, ℕ, length, length-set, true}
+use Rattle.std.proofs.Common.{◌<◌, ◌∙◌, ◌∷◌, ◌++◌, [], sym, ap, subst, ℕ, length, length-set, true}
 use Rattle.std.specs.Prelude.{map, slice_set}
 use Rattle.std.specs.BinaryHeap.{heap_items}
 use Rattle.std.proofs.lemmas.List.{map-append}
@@ -47,6 +47,8 @@ turns-preserved g c =
     let i = c.turns.invariant in
     let e = c.in_ok-cover-2.ensures in
     let s = c.in-Some.step in
+    let taken = c.taken-edge.ensures in
+    let clone = c.in_ok-clone.field-0 in
     record {
       len = ap length e.covered ∙ length-set c.turns.covered s.number true ∙ i.len;
       ordered = e.ordered;
@@ -54,8 +56,9 @@ turns-preserved g c =
       grown = λ nodes edges x r at.
           subst (λ bs. IsGrown g.N.PartialEq.eq g.N.Ord.cmp g.C.Ord.cmp g.C.Clone.is_clone nodes edges x bs (map shown c.push.new.self.items)) (sym e.covered)
           (subst (λ es. IsGrown g.N.PartialEq.eq g.N.Ord.cmp g.C.Ord.cmp g.C.Clone.is_clone nodes edges x (slice_set c.turns.covered s.number true) es) (sym (ap (map shown) c.in_ok-push.ensures.items ∙ map-append shown c.turns.tree.items _))
+          (subst (λ (f : g.row.N.Denot × g.row.N.Denot × g.row.C.Denot). IsGrown g.N.PartialEq.eq g.N.Ord.cmp g.C.Ord.cmp g.C.Clone.is_clone nodes edges x (slice_set c.turns.covered s.number true) (map shown c.turns.tree.items ++ (f.0, f.1, clone) ∷ [])) (sym taken)
           (IsGrown-push g.met.N.Eq.laws nodes g.met.C.Ord.total edges c.args.rows.now r x c.turns.covered i.len (heap_items c.turns.queue) i.waits (map shown c.turns.tree.items) (i.grown nodes edges x r at)
-          g.met.C.Ord.matches_eq c.requires.clones (heap_items c.next_leaving.new.queue) s c.in-Some.ensures.taken _ c.in_ok-clone.ensures.cases));
+          g.met.C.Ord.matches_eq c.requires.clones (heap_items c.next_leaving.new.queue) s c.in-Some.ensures.taken clone (subst (λ (f : g.row.N.Denot × g.row.N.Denot × g.row.C.Denot). g.C.Clone.is_clone f.2 clone) taken c.in_ok-clone.ensures.cases))));
     }
 
 pub returns : goal.returns

@@ -11,7 +11,7 @@ pub loop-numbered-preserved : goal.loop-numbered-preserved
 loop-numbered-preserved g c = record {
   len = c.in_ok-add_step-2.ensures.len ∙ c.in_ok-add_step.ensures.len ∙ c.loop-numbered.invariant.len;
   steps = HoldSteps-more c.as_slice-listed.result.now c.loop-numbered.numbered-index c.numbered-item.result _ _ c.loop-numbered.rows.items c.add_step.new.rows.items c.add_step-in-loop-numbered.new.rows.items c.loop-numbered-test.true c.numbered-item.is
-      (refl, refl, refl, refl) (refl, refl, refl, refl) c.in_ok-add_step.ensures.added c.in_ok-add_step-2.ensures.added c.loop-numbered.invariant.steps;
+      (refl, refl) (refl, refl) c.in_ok-add_step.ensures.added c.in_ok-add_step-2.ensures.added c.loop-numbered.invariant.steps;
 }
 
 pub add_step-requires : goal.add_step-requires
