@@ -1,7 +1,6 @@
 //! Names whose first byte has been read.
 
 ghost use Rattle.std.specs.Prelude.{◌≡◌, ◌++◌, OnOk};
-ghost use Rattle.pf_routes.specs.Internal.ReadNames.{with_first};
 
 use std::alloc::{AllocError, Allocator};
 use std::marker::Model;
