@@ -1,6 +1,6 @@
 -- What stands in a list after a write.
 use Rattle.std.proofs.Common.{◌≡◌, ◌<◌, ℕ, Option, Some, None, List, length, sym, refl, inl, inr, ◌∙◌}
-use Rattle.std.specs.Prelude.{◌⊎◌, slice_get, slice_set}
+use Rattle.std.specs.Prelude.{◌⊎◌, ◌↔◌, slice_get, slice_set}
 use Rattle.pf_base.proofs.ListLemmas.{get_set}
 
 pub of_some : {A : Type 0} (x y : A) → Some x ≡ Some y → x ≡ y
@@ -25,3 +25,13 @@ written_from {A} xs ys n v h from k x e = elim (get_set ys n k (Some v) h) as (�
   | inl q ↦ inr (q.0, of_some x v (of_some (Some x) (Some v) (sym e ∙ q.1)))
   | inr q ↦ elim (from k (Some x) (sym q.1 ∙ e)) as (λ _. slice_get xs k ≡ Some (Some x) ⊎ ((k ≡ n) × (x ≡ v))) [ inl r ↦ inl r | inr r ↦ absurd (none_is x r) ]
 ]
+
+-- what stands in a list of options, once one was taken out
+pub unwritten : {A : Type 0} (xs : List (Option A)) (n : ℕ) → n < length xs → (k : ℕ) (x : A) → (slice_get (slice_set xs n None) k ≡ Some (Some x)) ↔ ((slice_get xs k ≡ Some (Some x)) × ¬ (k ≡ n))
+unwritten {A} xs n h k x = (
+  λ e. elim (get_set xs n k None h) as (λ _. (slice_get xs k ≡ Some (Some x)) × ¬ (k ≡ n)) [
+    | inl q ↦ absurd (none_is x (of_some (Some x) None (sym e ∙ q.1)))
+    | inr q ↦ (sym q.1 ∙ e, q.0)
+  ],
+  λ e. set_other xs n k None h e.1 ∙ e.0,
+)

@@ -1,5 +1,5 @@
 //! What a depth-first search to a growing limit keeps: the way that it goes along, which numbers are on
-//! it, the rows of steps that are known, and the least sum that was cut off.
+//! it, the steps from these, and the least sum that was cut off.
 //!
 //! A layer below `pf_informed`, for `idastar`. No crate exports this layer.
 #![tactic(auto)]

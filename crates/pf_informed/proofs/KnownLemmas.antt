@@ -8,12 +8,12 @@ use Rattle.pf_core.specs.Nodes.{NodeGraph, StandsFor, IsStep}
 use Rattle.pf_core.specs.Numbered.{ListsSteps, Grows}
 use Rattle.pf_base.proofs.ListLemmas.{none_in, get-append}
 use Rattle.pf_core.proofs.NodeLemmas.{eq-sym, eq-trans, HasEdge-same}
-use Rattle.pf_core.proofs.SearchLemmas.{Grows-trans, Grows-refl}
+use Rattle.pf_core.proofs.SearchLemmas.{Grows-refl}
 use Rattle.pf_informed.specs.declared.directed.idastar.known.Known.{Known}
 use Rattle.pf_deepening.specs.declared.rows.Span.{Span}
 use Rattle.pf_informed.specs.Internal.Estimated.{IsEstimated}
 use Rattle.pf_deepening.specs.Ways.{HasSpan}
-use Rattle.pf_informed.specs.Internal.Rows.{IsCheapestOf, IsIn, IsCheapStep, IsTable, HasRows, IsWhole, KnowsMore}
+use Rattle.pf_informed.specs.Internal.Rows.{IsCheapestOf, IsIn, IsCheapStep, IsTable, HasRows, IsWhole, KnowsMore, KnowsStart}
 
 pub get_left : {A : Type 0} (xs ys : List A) (i : ℕ) → i < length xs → slice_get (xs ++ ys) i ≡ slice_get xs i
 get_left [] ys i h = absurd (omega (arith, h))
@@ -25,7 +25,7 @@ get_right [] ys i j e = ap (slice_get ys) (omega (arith, e))
 get_right (x ∷ xs) ys i zero e = absurd (omega (arith, e))
 get_right (x ∷ xs) ys i (suc j) e = get_right xs ys i j (omega (arith, e))
 
-no_span : (spans : List (Option Span)) → spans ≡ [] → (k : ℕ) (s : Span) → ¬ (HasSpan spans k s)
+pub no_span : (spans : List (Option Span)) → spans ≡ [] → (k : ℕ) (s : Span) → ¬ (HasSpan spans k s)
 no_span spans e k s h = none_in k (Some s) (subst (λ (xs : List (Option Span)). slice_get xs k ≡ Some (Some s)) e h)
 
 -- nothing is kept yet
@@ -174,5 +174,8 @@ module _ {M N C S T H Z : Type 0} {keys_of : M → List N} {eq : N → N → Boo
   pub more_refl : {known : Known M C S T H Z} → IsWhole keys_of known → KnowsMore keys_of eq known known
   more_refl whole = record { whole = whole; grows = Grows-refl _ _; steps = λ i x h. h; spans = λ k s h. h }
 
-  pub more_trans : {known known' known'' : Known M C S T H Z} → KnowsMore keys_of eq known known' → KnowsMore keys_of eq known' known'' → KnowsMore keys_of eq known known''
-  more_trans m n = record { whole = n.whole; grows = Grows-trans _ _ _ _ _ _ m.grows n.grows; steps = λ i x h. n.steps i x (m.steps i x h); spans = λ k s h. n.spans k s (m.spans k s h) }
+  pub start_of_more : {known known' : Known M C S T H Z} → KnowsMore keys_of eq known known' → KnowsStart keys_of eq known known'
+  start_of_more m = record { whole = m.whole; first = m.grows.stays 0 }
+
+  pub start_trans : {known known' known'' : Known M C S T H Z} → KnowsStart keys_of eq known known' → KnowsStart keys_of eq known' known'' → KnowsStart keys_of eq known known''
+  start_trans m n = record { whole = n.whole; first = λ x s. n.first x (m.first x s) }

@@ -1,5 +1,5 @@
 -- A search led by estimates: what it knows of its graph, while more nodes are found.
-use Rattle.std.proofs.Common.{◌≡◌, ◌<◌, ℕ, ℤ, Bool, List, [], ◌∷◌, length, slice_get, subst, arith, inl, inr}
+use Rattle.std.proofs.Common.{◌≡◌, ◌<◌, ◌∙◌, ℕ, ℤ, Bool, List, [], ◌∷◌, length, slice_get, subst, arith, inl, inr}
 use Rattle.std.specs.Prelude.{◌⊎◌, Option, Some}
 use Rattle.std.specs.Borrow.{Bor}
 use Rattle.std.specs.Cmp.{IsEquivalence}
@@ -65,6 +65,20 @@ module _ {M N C S T H : Type 0} {keys_of : M → List N} {eq : N → N → Bool}
     asked = led.asked;
     same_estimate = led.same_estimate;
     estimated = estimated_grown eq laws value least (InReach eq g.edges g.starts) led.same_estimate (keys_of graph.discovery.nodes) (keys_of graph'.discovery.nodes) led.explores.reached finds kept wide led.estimated;
+    admissible = led.admissible;
+    costs = led.costs;
+  }
+
+  -- what is known of the graph, where nodes were forgotten
+  pub led_less : IsEquivalence eq → (graph' : TestedBy M S T) → FindsMore keys_of eq graph' graph → Explores eq edge_answers g (keys_of graph'.discovery.nodes) graph'.discovery.source → test_answers graph'.success (InReach eq g.edges g.starts) test
+      → (kept' : List C) → ((i : ℕ) (c : C) → slice_get kept' i ≡ Some c → slice_get kept i ≡ Some c) → IsLed keys_of eq value edge_answers test_answers estimate_answers g test least graph' estimate kept'
+  led_less laws graph' shrinks explores tested kept' still = record {
+    explores = explores;
+    tested = tested;
+    same_test = led.same_test;
+    asked = led.asked;
+    same_estimate = led.same_estimate;
+    estimated = λ k x c i j. let s = shrinks.stays k x (x, i, laws.refl x) in led.estimated k s.0 c s.1 (still k c j) ∙ led.same_estimate s.0 x (led.explores.reached k s.0 s.1) s.2;
     admissible = led.admissible;
     costs = led.costs;
   }

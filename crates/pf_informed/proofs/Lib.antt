@@ -26,6 +26,8 @@ pub mod Callers
 pub mod RowLemmas
 pub mod KnownLemmas
 pub mod TrailLemmas
+pub mod NestLemmas
+pub mod ForgetLemmas
 pub mod ShortWays
 pub mod TurnsLeft
 pub mod WayLemmas

@@ -106,7 +106,9 @@ where
 /// - `OutOfMemory`: a request for memory was refused.
 ///
 /// The algorithm is IDA* (R. E. Korf, "Depth-first iterative-deepening: an optimal admissible tree
-/// search", 1985). Its time is of the order of the number of paths whose sums the limits admit.
+/// search", 1985). Its time is of the order of the number of paths whose sums the limits admit, and a
+/// state is asked for again for each of these that comes to it. Memory is taken for the states on one
+/// path and those that a move from them leads to.
 pub fn idastar<N, C, S, E, T, A>(
     alloc: A,
     space: &S,

@@ -10,7 +10,7 @@ use Rattle.pf_deepening.specs.declared.way.Way.{Way}
 use Rattle.pf_informed.specs.declared.directed.idastar.round.Round.{Round}
 use Rattle.pf_informed.specs.declared.directed.idastar.round.Round.TheVariants.{Found, Missed}
 use Rattle.pf_deepening.specs.Ways.{HasSpan, IsCutOff, IsMarked}
-use Rattle.pf_informed.specs.Internal.Rows.{IsCheapStep}
+use Rattle.pf_informed.specs.Internal.Rows.{found_in, IsCheapStep, KeepsNone}
 
 -- the numbers of frames
 abbrev pub numbers_of : {C : Type 0} → List (Frame C) → List ℕ
@@ -76,6 +76,22 @@ module _ {X C : Type 0} (eq : X → X → Bool) (value : C → ℤ) (step : X �
     IsTrail [] = ⊤
     IsTrail (f ∷ fs) = IsFrame covers steps spans f (numbers_of fs) × IsAbove steps f fs × IsTrail fs
 
+module _ {C : Type 0} (steps : List (ℕ × C)) (spans : List (Option Span)) where
+  -- Each frame's steps stand behind those of the frames below it, and before `end`. When they were asked for, its number had been found, and those to which the steps before them lead.
+  abbrev pub IsNested : ℕ → ℕ → List (Frame C) → Type 0
+  IsNested found end [] = ⊤
+  IsNested found end (f ∷ fs) = (s : Span) × HasSpan spans f.number s × (s.end ≤ end) × (s.found ≤ found) × (f.number < s.found) × ((i j : ℕ) (c : C) → i < s.begin → slice_get steps i ≡ Some (j, c) → j < s.found) × IsNested s.found s.begin fs
+
+  -- the frames are nested, and no other steps are kept
+  pub record IsStack (found : ℕ) (frames : List (Frame C)) : Type 0 where
+    pub nested : IsNested found (length steps) frames
+    pub only : (k : ℕ) (s : Span) → HasSpan spans k s → Contains (numbers_of frames) k
+
+-- after a round that found no goal, no steps are kept
+abbrev pub LeavesNone : {C A : Type 0} → List (Option Span) → Round C A → Type 0
+LeavesNone spans (Found numbers cost) = ⊤
+LeavesNone spans (Missed cut past) = KeepsNone spans
+
 module _ {N C : Type 0} (eq : N → N → Bool) (value : C → ℤ) (fits : ℤ → Type 0) (g : NodeGraph N) where
   -- A way from the start, which meets no node twice, costs so much that its cost and the estimate of its last node do not fit together.
   pub record IsWayPast (least : N → ℤ) (first : N) : Type 0 where
@@ -122,6 +138,10 @@ module _ {C Z : Type 0} (way : Way C Z) where
 
   abbrev pub IsMarkedOn : (C → ℤ) → C → ℕ → Type 0
   IsMarkedOn value limit found = IsMarkedWay value limit found way.marks.items way.frame (reverse way.trail.items) way.cut_off.least
+
+  -- what is kept is that of the way
+  abbrev pub IsStacked : {M N S T H : Type 0} → (M → List N) → Known M C S T H Z → Type 0
+  IsStacked keys_of known = IsStack known.rows.steps.items known.rows.spans.items (found_in keys_of known) (way.frame ∷ reverse way.trail.items)
 
   -- where a search stands that has come so far
   abbrev pub IsUnderWay : {M N S T H : Type 0} → (M → List N) → (N → N → Bool) → (C → ℤ) → (ℤ → Type 0) → NodeGraph N → (N → Bool) → (N → ℤ) → N → Known M C S T H Z → Type 0

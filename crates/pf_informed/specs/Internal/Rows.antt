@@ -1,5 +1,5 @@
 -- Rows of steps: which of parallel steps are kept, and where the row of a number stands.
-use Rattle.std.specs.Prelude.{◌≡◌, ◌≤◌, ◌<◌, ◌≤ℤ◌, ℕ, ℤ, Bool, false, List, [], ◌∷◌, Option, Some, Contains, slice_get, length}
+use Rattle.std.specs.Prelude.{◌≡◌, ◌↔◌, ◌≤◌, ◌<◌, ◌≤ℤ◌, ℕ, ℤ, Bool, false, List, [], ◌∷◌, Option, Some, Contains, slice_get, length, take}
 use Rattle.pf_base.specs.Edges.{InReach, StepCosts}
 use Rattle.pf_core.specs.Nodes.{NodeGraph, StandsFor}
 use Rattle.pf_informed.specs.Internal.Led.{IsLed, FindsMore}
@@ -13,6 +13,10 @@ pub record IsCheapestOf {C : Type 0} (value : C → ℤ) (row : List (ℕ × C))
   pub from : (i j : ℕ) (c : C) → slice_get row i ≡ Some (j, c) → Contains steps (j, c)
   pub least : (i j : ℕ) (c d : C) → slice_get row i ≡ Some (j, c) → Contains steps (j, d) → value c ≤ℤ value d
   pub all : (j : ℕ) (d : C) → Contains steps (j, d) → (i : ℕ) × (c : C) × (slice_get row i ≡ Some (j, c))
+
+-- no steps are kept
+abbrev pub KeepsNone : List (Option Span) → Type 0
+KeepsNone spans = (k : ℕ) (s : Span) → ¬ (HasSpan spans k s)
 
 -- the place lies within the span
 abbrev pub IsIn : Span → ℕ → Type 0
@@ -55,6 +59,19 @@ module _ {M N C S T H Z : Type 0} (keys_of : M → List N) where
     pub grows : FindsMore keys_of eq known.graph known'.graph
     pub steps : (i : ℕ) (e : ℕ × C) → slice_get known.rows.steps.items i ≡ Some e → slice_get known'.rows.steps.items i ≡ Some e
     pub spans : (k : ℕ) (s : Span) → HasSpan known.rows.spans.items k s → HasSpan known'.rows.spans.items k s
+
+  -- what is known is whole, and the number 0 stands for what it stood for
+  pub record KnowsStart (eq : N → N → Bool) (known known' : Known M C S T H Z) : Type 0 where
+    pub whole : IsWhole known'
+    pub first : (x : N) → StandsFor eq (keys_of known.graph.discovery.nodes) 0 x → StandsFor eq (keys_of known'.graph.discovery.nodes) 0 x
+
+  -- the steps from a number were forgotten, which stood at this span, and what was found and kept since they were asked for
+  pub record Forgets (eq : N → N → Bool) (number : ℕ) (s : Span) (known known' : Known M C S T H Z) : Type 0 where
+    pub left : found_in known' ≡ s.found
+    pub shrinks : FindsMore keys_of eq known'.graph known.graph
+    pub estimates : known'.estimates.items ≡ take s.found known.estimates.items
+    pub steps : known'.rows.steps.items ≡ take s.begin known.rows.steps.items
+    pub spans : (k : ℕ) (t : Span) → HasSpan known'.rows.spans.items k t ↔ (HasSpan known.rows.spans.items k t × ¬ (k ≡ number))
 
   -- What is known of a graph: what a search led by estimates knows, and that each row is right.
   module _ (eq : N → N → Bool) (value : C → ℤ) (edge_answers : S → List N → (N → List (N × ℤ)) → Type 0) (test_answers : T → (N → Type 0) → (N → Bool) → Type 0) (estimate_answers : H → (N → Type 0) → (N → ℤ) → Type 0) where

@@ -4,7 +4,7 @@ ghost use Rattle.std.specs.Prelude.{◌≡◌, ◌⊎◌, [], ◌∷◌, Err, If
 ghost use Rattle.pf_base.specs.Edges.{IsCheapestOrNone};
 ghost use Rattle.pf_base.specs.Answers.{IsLawfulClone};
 ghost use Rattle.pf_informed.specs.Estimates.{AnswersInformedSearch, MayOverflow, OfInformedSearch};
-ghost use Rattle.pf_informed.specs.Internal.Rows.{AnswersKnownSearch, found_in, IsTabled, OfKnownSearch};
+ghost use Rattle.pf_informed.specs.Internal.Rows.{AnswersKnownSearch, found_in, IsTabled, KeepsNone, OfKnownSearch};
 
 use crate::directed::idastar::known::Known;
 use crate::directed::idastar::round::{Round, look_through};
@@ -40,6 +40,7 @@ where
     requires one { found_in M.keys known.old ≡ 1 }
     requires unasked { known.old.estimates.items ≡ [] }
     requires table { IsTabled M.keys known.old }
+    requires unopened { KeepsNone known.old.rows.spans.items }
     requires graph { AnswersKnownSearch M.keys N.eq C.value S.answers T.answers H.answers known.old }
 
     ensures best { OfKnownSearch M.keys N.eq C.value S.answers T.answers H.answers known.old (λ start edges test least.
@@ -84,9 +85,9 @@ where
 /// the way from a node to a node that passes costs at least: it is never negative, and never above the
 /// cost of any walk from the node to one that passes. It need not be consistent, and may be any number
 /// from zero up where no walk leads to a node that passes. The three functions answer alike for equal
-/// nodes at every call and are asked of nodes in reach of `start` alone, each once for a node that is
-/// opened or found, and no cost in reach may be negative. The path begins with a clone of `start` and
-/// contains no node twice. Which of several such paths is answered is open.
+/// nodes at every call and are asked of nodes in reach of `start` alone, again for each way that comes
+/// to a node, and no cost in reach may be negative. The path begins with a clone of `start` and contains
+/// no node twice. Which of several such paths is answered is open.
 ///
 /// `pf_search/CALLING.md` has the lemmas by which a caller proves the clause `graph`.
 ///
@@ -101,7 +102,8 @@ where
 /// admissible tree search", 1985): the paths from `start` whose costs and estimates stay within a limit
 /// are looked through depth first, and the least sum that was cut off is the next limit. The way is kept
 /// as a set in order, and no node of it is entered again. Its time is of the order of the number of these
-/// paths. The nodes that were found are kept with their edges, so that later rounds ask for nothing.
+/// paths. Memory is taken for the nodes on the way and those that a step from them leads to alone, since
+/// a node is forgotten when the way goes back from it.
 pub fn idastar<N, C, IN, FN, FH, FS, A>(
     alloc: A,
     start: &N,

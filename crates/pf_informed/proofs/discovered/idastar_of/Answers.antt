@@ -12,6 +12,9 @@ search_on-requires-clause-unasked g c = c.new-known.ensures.unasked
 pub search_on-requires-clause-table : goal.search_on-requires-clause-table
 search_on-requires-clause-table g c = c.new-known.ensures.table
 
+pub search_on-requires-clause-unopened : goal.search_on-requires-clause-unopened
+search_on-requires-clause-unopened g c = c.new-known.ensures.unopened
+
 pub search_on-requires-clause-graph : goal.search_on-requires-clause-graph
 search_on-requires-clause-graph g c =
     let r = c.requires.graph in

@@ -3,8 +3,8 @@
 ghost use Rattle.std.specs.Prelude.{◌≡◌, ◌<◌, ◌≤ℤ◌, ◌++◌, ◌∷◌, [], ℤ, Bool, Some, OnOk, IfOk, IfErr, MatchOption, ⊤, map};
 ghost use Rattle.pf_core.specs.Nodes.{NodeGraph, StandsFor};
 ghost use Rattle.pf_deepening.specs.declared.way.Frame.{Frame};
-ghost use Rattle.pf_informed.specs.Internal.Rows.{found_in, IsWhole, KnowsMore, IsKnown};
-ghost use Rattle.pf_informed.specs.Internal.Deepening.{turns_on, IsRound, Looked, IsUnderWay, IsMarkedOn};
+ghost use Rattle.pf_informed.specs.Internal.Rows.{found_in, IsWhole, KeepsNone, KnowsMore, KnowsStart, IsKnown};
+ghost use Rattle.pf_informed.specs.Internal.Deepening.{turns_on, IsRound, LeavesNone, Looked, IsStacked, IsUnderWay, IsMarkedOn};
 
 use crate::directed::idastar::known::Known;
 use crate::functions::EstimateFunction;
@@ -62,11 +62,13 @@ where
     requires left { way.old.frame.at < way.old.frame.end }
     requires whole { IsWhole M.keys known.old }
     requires marked { IsMarkedOn way.old C.value limit (found_in M.keys known.old) }
+    requires stack { IsStacked way.old M.keys known.old }
     requires graph { (g : NodeGraph N) × (test : N → Bool) × (least : N → ℤ) × (first : N)
         × IsKnown M.keys N.eq C.value S.answers T.answers H.answers g test least known.old
         × IsUnderWay way.old M.keys N.eq C.value C.fits g test least first known.old }
     ensures more { OnOk result (KnowsMore M.keys N.eq known.old known.new) }
     ensures marked { IfOk result (λ r. MatchOption r (IsMarkedOn way.new C.value limit (found_in M.keys known.new)) (IsRound C.value limit (found_in M.keys known.new))) }
+    ensures stack { IfOk result (λ r. MatchOption r (IsStacked way.new M.keys known.new) (LeavesNone known.new.rows.spans.items)) }
     ensures less { IfOk result (λ r. MatchOption r (turns_on way.new < turns_on way.old) (λ _. ⊤)) }
     ensures graph { (g : NodeGraph N) (test : N → Bool) (least : N → ℤ) (first : N)
         → IsKnown M.keys N.eq C.value S.answers T.answers H.answers g test least known.old
@@ -103,7 +105,8 @@ where
     }
 }
 
-/// Takes the next step of the last frame, or goes back where none is left.
+/// Takes the next step of the last frame, or goes back where none is left, and forgets what was found
+/// from there on.
 fn turn<N, M, C, S, T, H, A>(
     alloc: A,
     known: &mut Known<M, C, S, T, H, A>,
@@ -120,11 +123,13 @@ where
     A: Allocator + Copy,
     requires whole { IsWhole M.keys known.old }
     requires marked { IsMarkedOn way.old C.value limit (found_in M.keys known.old) }
+    requires stack { IsStacked way.old M.keys known.old }
     requires graph { (g : NodeGraph N) × (test : N → Bool) × (least : N → ℤ) × (first : N)
         × IsKnown M.keys N.eq C.value S.answers T.answers H.answers g test least known.old
         × IsUnderWay way.old M.keys N.eq C.value C.fits g test least first known.old }
-    ensures more { OnOk result (KnowsMore M.keys N.eq known.old known.new) }
+    ensures start { OnOk result (KnowsStart M.keys N.eq known.old known.new) }
     ensures marked { IfOk result (λ r. MatchOption r (IsMarkedOn way.new C.value limit (found_in M.keys known.new)) (IsRound C.value limit (found_in M.keys known.new))) }
+    ensures stack { IfOk result (λ r. MatchOption r (IsStacked way.new M.keys known.new) (LeavesNone known.new.rows.spans.items)) }
     ensures less { IfOk result (λ r. MatchOption r (turns_on way.new < turns_on way.old) (λ _. ⊤)) }
     ensures graph { (g : NodeGraph N) (test : N → Bool) (least : N → ℤ) (first : N)
         → IsKnown M.keys N.eq C.value S.answers T.answers H.answers g test least known.old
@@ -137,6 +142,7 @@ where
     if way.frame.at < way.frame.end {
         return go_on(alloc, known, limit, way);
     }
+    known.forget(way.frame.number);
     if way.leave() {
         Ok(None)
     } else {
@@ -158,6 +164,7 @@ fn first_alone<A: Allocator>(alloc: A) -> Result<Vec<usize, A>, PathError>
 }
 
 /// Looks through the ways from the number 0 whose costs and estimates stay within the limit together.
+/// What was found is forgotten again, but for a way to a node that passes.
 pub(crate) fn look_through<N, M, C, S, T, H, A>(
     alloc: A,
     known: &mut Known<M, C, S, T, H, A>,
@@ -173,10 +180,12 @@ where
     A: Allocator + Copy,
     requires begun { 0 < found_in M.keys known.old }
     requires whole { IsWhole M.keys known.old }
+    requires unopened { KeepsNone known.old.rows.spans.items }
     requires graph { (g : NodeGraph N) × (test : N → Bool) × (least : N → ℤ) × (first : N)
         × IsKnown M.keys N.eq C.value S.answers T.answers H.answers g test least known.old
         × StandsFor N.eq (M.keys known.old.graph.discovery.nodes) 0 first × (least first ≤ℤ C.value limit) }
-    ensures more { OnOk result (KnowsMore M.keys N.eq known.old known.new) }
+    ensures start { OnOk result (KnowsStart M.keys N.eq known.old known.new) }
+    ensures unopened { IfOk result (LeavesNone known.new.rows.spans.items) }
     ensures round { IfOk result (IsRound C.value limit (found_in M.keys known.new)) }
     ensures graph { (g : NodeGraph N) (test : N → Bool) (least : N → ℤ) (first : N)
         → IsKnown M.keys N.eq C.value S.answers T.answers H.answers g test least known.old

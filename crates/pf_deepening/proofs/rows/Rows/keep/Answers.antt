@@ -10,21 +10,21 @@ returns-clause-steps g c = c.in_ok-extend_from_slice.ensures.items
 pub returns-clause-span : goal.returns-clause-span
 returns-clause-span g c =
     let ok = c.args.self.now.steps.ok.0 in
-    (omega (arith, c.len-begin.ensures, ok), omega (arith, c.len.ensures, c.in_ok-extend_from_slice.ensures.len, ok))
+    (omega (arith, c.len-begin.ensures, ok), omega (arith, c.len.ensures, c.in_ok-extend_from_slice.ensures.len, ok), refl)
 
 pub returns-clause-kept : goal.returns-clause-kept
 returns-clause-kept g c =
-    let span : Span = record { begin = c.len-begin.result; end = c.len.result } in
+    let span : Span = record { begin = c.len-begin.result; end = c.len.result; found = c.args.found } in
     set_here c.widen.new.items.items c.args.number (Some span) c.in_ok-widen.ensures.long
 
 pub returns-clause-others : goal.returns-clause-others
 returns-clause-others g c = λ k s ne h.
-    let span : Span = record { begin = c.len-begin.result; end = c.len.result } in
+    let span : Span = record { begin = c.len-begin.result; end = c.len.result; found = c.args.found } in
     set_other c.widen.new.items.items c.args.number k (Some span) c.in_ok-widen.ensures.long ne ∙ c.in_ok-widen.ensures.kept k (Some s) h
 
 pub returns-clause-from : goal.returns-clause-from
 returns-clause-from g c =
-    let span : Span = record { begin = c.len-begin.result; end = c.len.result } in
+    let span : Span = record { begin = c.len-begin.result; end = c.len.result; found = c.args.found } in
     written_from c.args.self.now.spans.items c.widen.new.items.items c.args.number span c.in_ok-widen.ensures.long c.in_ok-widen.ensures.from
 
 pub returns-in_err-extend_from_slice : goal.returns-in_err-extend_from_slice

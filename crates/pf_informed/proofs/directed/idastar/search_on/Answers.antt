@@ -37,6 +37,7 @@ limits-init g c =
     record {
       begins = λ x s. s;
       whole = record { asked = asked; table = c.requires.table };
+      unopened = c.requires.unopened;
       searched = λ start edges test least b k.
           let h = graph_of start edges in
           let a = c.in_ok-ask.ensures.graph h least k.led.asked k.led.explores.reached in
@@ -107,11 +108,12 @@ limits-preserved g c =
     let before = g.M.Numbering.keys c.limits.known.graph.discovery.nodes in
     let keys = g.M.Numbering.keys c.look_through.new.known.graph.discovery.nodes in
     let n = c.in-Some.least in
-    let grows = c.in_ok-numbers.ensures.more.grows in
+    let start_stays = c.in_ok-numbers.ensures.start.first in
     let above = (rw c.in-Missed.is at c.in_ok-numbers.ensures.round) n c.in-Some.is in
     record {
-      begins = λ x s. grows.stays 0 x (inv.begins x s);
-      whole = c.in_ok-numbers.ensures.more.whole;
+      begins = λ x s. start_stays x (inv.begins x s);
+      whole = c.in_ok-numbers.ensures.start.whole;
+      unopened = rw c.in-Missed.is at c.in_ok-numbers.ensures.unopened;
       searched = λ start edges test least b d.
           let v = c.limits.invariant.searched start edges test least b d in
           let k = v.0 in
@@ -128,7 +130,7 @@ limits-preserved g c =
                 let here = StandsFor-same eq laws before 0 start s0 begins e in
                 let same = k.led.same_estimate start s0 (reach start begins) e in
                 let seen = rw c.in-Missed.is at (c.in_ok-numbers.ensures.graph h test least s0 v.0 here (subst (λ (z : ℤ). z ≤ℤ value c.limits.limit) same v.1)) in
-                let q = covered_walk eq laws value fits (λ a b d. g.C.Number.between_law a b d exact) (g.met.C.Zero.zero_fits_law exact) h alike test same_test p keys (IsCutOff value fits c.in-Missed.least c.in-Missed.past) s0 (grows.stays 0 s0 here) (reach s0 here) seen.1.0 ws u goes good in
+                let q = covered_walk eq laws value fits (λ a b d. g.C.Number.between_law a b d exact) (g.met.C.Zero.zero_fits_law exact) h alike test same_test p keys (IsCutOff value fits c.in-Missed.least c.in-Missed.past) s0 (start_stays s0 here) (reach s0 here) seen.1.0 ws u goes good in
                 let cut = subst (λ (o : Option g.row.C.Denot). IsCutOff value fits o c.in-Missed.past q.0) c.in-Some.is q.3 in
                 next_limit eq laws value fits (λ a b d. g.C.Number.between_law a b d exact) (g.met.C.Zero.zero_fits_law exact) h alike test same_test p n c.in-Missed.past q.0 u c.known.ensures q.1 q.2 cut,
           );
@@ -145,7 +147,7 @@ returns-then-past g c = record {
       let exact = g.met.C.Integral.exact_law in
       let before = g.M.Numbering.keys c.limits.known.graph.discovery.nodes in
       let keys = g.M.Numbering.keys c.look_through.new.known.graph.discovery.nodes in
-      let grows = c.in_ok-numbers.ensures.more.grows in
+      let start_stays = c.in_ok-numbers.ensures.start.first in
       let v = c.limits.invariant.searched start edges test least b d in
       let k = v.0 in
       let begins = c.limits.invariant.begins start b in
@@ -161,7 +163,7 @@ returns-then-past g c = record {
             let here = StandsFor-same eq laws before 0 start s0 begins e in
             let same = k.led.same_estimate start s0 (reach start begins) e in
             let seen = rw c.in-Missed.is at (c.in_ok-numbers.ensures.graph h test least s0 v.0 here (subst (λ (z : ℤ). z ≤ℤ value c.limits.limit) same v.1)) in
-            let q = covered_walk eq laws value fits (λ a b d. g.C.Number.between_law a b d exact) (g.met.C.Zero.zero_fits_law exact) h alike test same_test p keys (IsCutOff value fits c.in-Missed.least c.in-Missed.past) s0 (grows.stays 0 s0 here) (reach s0 here) seen.1.0 ws u goes good in
+            let q = covered_walk eq laws value fits (λ a b d. g.C.Number.between_law a b d exact) (g.met.C.Zero.zero_fits_law exact) h alike test same_test p keys (IsCutOff value fits c.in-Missed.least c.in-Missed.past) s0 (start_stays s0 here) (reach s0 here) seen.1.0 ws u goes good in
             let cut = subst (λ (o : Option g.row.C.Denot). IsCutOff value fits o c.in-Missed.past q.0) c.in_default.is q.3 in
             none_fits eq laws value fits (λ a b d. g.C.Number.between_law a b d exact) (g.met.C.Zero.zero_fits_law exact) h alike test same_test p c.in-Missed.past q.0 u q.1 q.2 cut),
       );
@@ -178,7 +180,7 @@ returns-in_default g c = record {
       let exact = g.met.C.Integral.exact_law in
       let before = g.M.Numbering.keys c.limits.known.graph.discovery.nodes in
       let keys = g.M.Numbering.keys c.look_through.new.known.graph.discovery.nodes in
-      let grows = c.in_ok-numbers.ensures.more.grows in
+      let start_stays = c.in_ok-numbers.ensures.start.first in
       let v = c.limits.invariant.searched start edges test least b d in
       let k = v.0 in
       let begins = c.limits.invariant.begins start b in
@@ -192,7 +194,7 @@ returns-in_default g c = record {
       let here = StandsFor-same eq laws before 0 start s0 begins e in
       let same = k.led.same_estimate start s0 (reach start begins) e in
       let seen = rw c.in-Missed.is at (c.in_ok-numbers.ensures.graph h test least s0 v.0 here (subst (λ (z : ℤ). z ≤ℤ value c.limits.limit) same v.1)) in
-      let q = covered_walk eq laws value fits (λ a b d. g.C.Number.between_law a b d exact) (g.met.C.Zero.zero_fits_law exact) h alike test same_test p keys (IsCutOff value fits c.in-Missed.least c.in-Missed.past) s0 (grows.stays 0 s0 here) (reach s0 here) seen.1.0 ws u goes good in
+      let q = covered_walk eq laws value fits (λ a b d. g.C.Number.between_law a b d exact) (g.met.C.Zero.zero_fits_law exact) h alike test same_test p keys (IsCutOff value fits c.in-Missed.least c.in-Missed.past) s0 (start_stays s0 here) (reach s0 here) seen.1.0 ws u goes good in
       let cut = subst (λ (o : Option g.row.C.Denot). IsCutOff value fits o c.in-Missed.past q.0) c.in_default.is q.3 in
       none_cut eq laws value fits (λ a b d. g.C.Number.between_law a b d exact) (g.met.C.Zero.zero_fits_law exact) h alike test same_test p q.0 (subst (λ (b : Bool). IsCutOff value fits None b q.0) c.if-past.false cut));
   overflow = λ start edges test least b d e. absurd (ok_is_no_error _ _ _ refl e);
@@ -222,6 +224,9 @@ returns-in_err-nodes-in-Found g c = record {
 
 pub look_through-requires-clause-whole : goal.look_through-requires-clause-whole
 look_through-requires-clause-whole g c = c.limits.invariant.whole
+
+pub look_through-requires-clause-unopened : goal.look_through-requires-clause-unopened
+look_through-requires-clause-unopened g c = c.limits.invariant.unopened
 
 pub look_through-requires-clause-graph : goal.look_through-requires-clause-graph
 look_through-requires-clause-graph g c =

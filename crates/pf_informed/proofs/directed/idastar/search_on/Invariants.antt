@@ -3,7 +3,7 @@ use Rattle.std.specs.Prelude.{◌≤ℤ◌}
 use Rattle.pf_core.specs.Nodes.{StandsFor, IsStep}
 use Rattle.pf_core.specs.Steps.{NoGoalBelow}
 use Rattle.pf_informed.specs.Internal.Forest.{nat_of}
-use Rattle.pf_informed.specs.Internal.Rows.{IsWhole, IsKnown}
+use Rattle.pf_informed.specs.Internal.Rows.{IsWhole, KeepsNone, IsKnown}
 use Rattle.pf_informed.proofs.directed.idastar.search_on.Given as goal
 
 abbrev pub invariant-limits : goal.invariant-limits
@@ -16,6 +16,7 @@ invariant-limits g l =
     record {
       begins : (x : g.row.N.Denot) → StandsFor eq begun 0 x → StandsFor eq keys 0 x;
       whole : IsWhole g.M.Numbering.keys l.known;
+      unopened : KeepsNone l.known.rows.spans.items;
       searched : (start : g.row.N.Denot) (edges : g.row.N.Denot → List (g.row.N.Denot × ℤ)) (test : g.row.N.Denot → Bool) (least : g.row.N.Denot → ℤ) → StandsFor eq begun 0 start
           → answers (record { starts = start ∷ []; edges = edges }) test least l.fn.known
           → answers (record { starts = start ∷ []; edges = edges }) test least l.known

@@ -5,12 +5,14 @@ use Rattle.pf_core.specs.NodeLaws.{StandsFor-one}
 use Rattle.pf_base.proofs.ListLemmas.{Contains-cases, Contains-reverse, Contains-append_one}
 use Rattle.pf_core.proofs.NodeLemmas.{InReach-same}
 use Rattle.pf_core.proofs.UnitLemmas.{begins_all}
+use Rattle.pf_deepening.specs.declared.rows.Span.{Span}
 use Rattle.pf_deepening.specs.declared.way.Frame.{Frame}
-use Rattle.pf_deepening.specs.Ways.{IsMarked}
-use Rattle.pf_informed.specs.Internal.Deepening.{numbers_of, turns_left}
+use Rattle.pf_deepening.specs.Ways.{HasSpan, IsMarked}
+use Rattle.pf_informed.specs.Internal.Deepening.{numbers_of, turns_left, IsStack}
 use Rattle.pf_informed.proofs.KnownLemmas.{more_refl}
 use Rattle.pf_informed.proofs.EstimateLemmas.{estimate_at}
 use Rattle.pf_informed.proofs.NodeWalks.{estimate_is}
+use Rattle.pf_informed.proofs.NestLemmas.{stack_entered}
 use Rattle.pf_informed.proofs.TurnsLeft.{some_turns, advanced_less, entered_less}
 use Rattle.pf_informed.proofs.WayLemmas.{cheap_positive, marked_on, numbers_up, frame_ends, step_at, still_found, part_within, on_way_as, skipped, cost_from_zero, price_from_zero, cut_there, went_on, arrived}
 use Rattle.pf_base.proofs.Outcomes.{if_refused, on_refused, refused_as}
@@ -21,6 +23,7 @@ pub returns-then-is_marked : goal.returns-then-is_marked
 returns-then-is_marked g c = record {
   more = more_refl c.requires.whole;
   marked = record { marked = c.requires.marked.marked; inside = c.requires.marked.inside; above = c.requires.marked.above };
+  stack = record { nested = c.requires.stack.nested; only = c.requires.stack.only };
   less = advanced_less 18446744073709551616 18446744073709551616 some_turns c.args.way.now.frame (reverse c.args.way.now.trail.items) c.requires.left;
   graph = λ h test least first k w.
       let eq = g.N.PartialEq.eq in
@@ -115,6 +118,7 @@ returns-in_default g c = record {
     inside = c.requires.marked.inside;
     above = λ n q. elim (c.in_default.ensures.above n q) as (λ _. g.C.Number.value c.args.limit <ℤ g.C.Number.value n) [ inl o ↦ c.requires.marked.above n o | inr l ↦ l ];
   };
+  stack = record { nested = c.requires.stack.nested; only = c.requires.stack.only };
   less = advanced_less 18446744073709551616 18446744073709551616 some_turns c.args.way.now.frame (reverse c.args.way.now.trail.items) c.requires.left;
   graph = λ h test least first k w.
       let eq = g.N.PartialEq.eq in
@@ -182,6 +186,30 @@ returns-in_ok-enter-in-Some-2 g c = record {
         ];
         above = λ n q. c.requires.marked.above n (sym c.in-Some.ensures.entered.2 ∙ sym (ap (λ o. o.least) e.cut_off) ∙ q);
       };
+  stack =
+      let r = c.requires.graph in
+      let k = r.4 in
+      let known = c.args.known.now in
+      let way = c.args.way.now in
+      let keys = g.M.Numbering.keys known.graph.discovery.nodes in
+      let steps = known.rows.steps.items in
+      let spans = known.rows.spans.items in
+      let step = c.index-step.result.now in
+      let fs = reverse way.trail.items in
+      let at = step_at g.N.PartialEq.eq g.met.N.Eq.laws g.C.Number.value g.C.Number.fits r.0 r.1 r.2 r.3 keys steps spans k.rows (length keys) c.requires.whole.table way.frame fs way.cut_off.least way.cut_off.past r.5 c.requires.left step (sym c.index-step.ensures) in
+      let inside = c.requires.whole.table.inside way.frame.at step.0 step.1 at in
+      let after = c.span_of.new.self in
+      let e = c.in_ok-enter-in-Some-2.ensures in
+      let s = c.in-Some-2.span in
+      let has = rw c.in-Some-2.is at c.in_ok-span.ensures.kept in
+      let opened = rw c.in-Some-2.is at c.in_ok-span.ensures.opened in
+      let more = c.in_ok-span.ensures.more in
+      let frame = c.enter.new.self.frame in
+      let number : step.0 ≡ frame.number = sym (ap (λ (f : Frame g.row.C.Denot). f.number) e.frame) in
+      let entered = stack_entered steps spans (λ i q h. (c.requires.whole.table.within i q h).0) after.rows.steps.items after.rows.spans.items more.steps more.spans (way.frame ∷ fs) (length keys) (length (g.M.Numbering.keys after.graph.discovery.nodes)) more.grows.more c.requires.whole.table.inside
+      (record { nested = c.requires.stack.nested; only = c.requires.stack.only }) frame s (subst (λ (n : ℕ). HasSpan after.rows.spans.items n s) number has) (more.whole.table.within step.0 s has).1 opened.0 opened.1 (subst (λ (n : ℕ). n < length keys) number inside)
+      (subst (λ (n : ℕ). (i : ℕ) (t : Span) → HasSpan after.rows.spans.items i t → HasSpan spans i t ⊎ (i ≡ n)) number c.in_ok-span.ensures.only) in
+      subst (λ (xs : List (Frame g.row.C.Denot)). IsStack after.rows.steps.items after.rows.spans.items (length (g.M.Numbering.keys after.graph.discovery.nodes)) (frame ∷ xs)) (sym e.below) entered;
   less =
       let way = c.args.way.now in
       let fs = reverse way.trail.items in
@@ -248,6 +276,7 @@ returns-in_ok-numbers-in-None g c = record {
         | inl q ↦ still_found _ _ _ (c.requires.marked.inside i (Contains-reverse (numbers_of (way.frame ∷ fs)) i q)) grows.more
         | inr q ↦ subst (λ (n : ℕ). n < length (g.M.Numbering.keys c.span_of.new.self.graph.discovery.nodes)) q (still_found _ _ _ inside grows.more)
       ];
+  stack = tt;
   less = tt;
   graph = λ h test least first k w.
       let eq = g.N.PartialEq.eq in
@@ -288,6 +317,7 @@ pub returns-in_err-span : goal.returns-in_err-span
 returns-in_err-span g c = record {
   more = on_refused _ c.from_residual.result _ c.from_residual.ensures.1;
   marked = if_refused _ c.from_residual.result _ c.from_residual.ensures.1;
+  stack = if_refused _ c.from_residual.result _ c.from_residual.ensures.1;
   less = if_refused _ c.from_residual.result _ c.from_residual.ensures.1;
   graph = λ h test least first k w. if_refused _ c.from_residual.result _ c.from_residual.ensures.1;
   refused = refused_as _ c.from_residual.result _ c.from_residual.ensures.1 c.in_err-span.ensures.refused;
@@ -297,6 +327,7 @@ pub returns-in_err-enter-in-Some-2 : goal.returns-in_err-enter-in-Some-2
 returns-in_err-enter-in-Some-2 g c = record {
   more = on_refused _ c.from_residual-in_err-enter-in-Some-2.result _ c.from_residual-in_err-enter-in-Some-2.ensures.1;
   marked = if_refused _ c.from_residual-in_err-enter-in-Some-2.result _ c.from_residual-in_err-enter-in-Some-2.ensures.1;
+  stack = if_refused _ c.from_residual-in_err-enter-in-Some-2.result _ c.from_residual-in_err-enter-in-Some-2.ensures.1;
   less = if_refused _ c.from_residual-in_err-enter-in-Some-2.result _ c.from_residual-in_err-enter-in-Some-2.ensures.1;
   graph = λ h test least first k w. if_refused _ c.from_residual-in_err-enter-in-Some-2.result _ c.from_residual-in_err-enter-in-Some-2.ensures.1;
   refused = refused_as _ c.from_residual-in_err-enter-in-Some-2.result _ c.from_residual-in_err-enter-in-Some-2.ensures.1 c.in_err-enter-in-Some-2.ensures.refused;
@@ -306,6 +337,7 @@ pub returns-in_err-numbers-in-None : goal.returns-in_err-numbers-in-None
 returns-in_err-numbers-in-None g c = record {
   more = on_refused _ c.from_residual-in_err-numbers-in-None.result _ c.from_residual-in_err-numbers-in-None.ensures.1;
   marked = if_refused _ c.from_residual-in_err-numbers-in-None.result _ c.from_residual-in_err-numbers-in-None.ensures.1;
+  stack = if_refused _ c.from_residual-in_err-numbers-in-None.result _ c.from_residual-in_err-numbers-in-None.ensures.1;
   less = if_refused _ c.from_residual-in_err-numbers-in-None.result _ c.from_residual-in_err-numbers-in-None.ensures.1;
   graph = λ h test least first k w. if_refused _ c.from_residual-in_err-numbers-in-None.result _ c.from_residual-in_err-numbers-in-None.ensures.1;
   refused = refused_as _ c.from_residual-in_err-numbers-in-None.result _ c.from_residual-in_err-numbers-in-None.ensures.1 c.in_err-numbers-in-None.ensures.refused;
@@ -313,6 +345,9 @@ returns-in_err-numbers-in-None g c = record {
 
 pub span_of-requires-clause-whole : goal.span_of-requires-clause-whole
 span_of-requires-clause-whole g c = c.requires.whole
+
+pub span_of-requires-clause-unopened : goal.span_of-requires-clause-unopened
+span_of-requires-clause-unopened g c = λ s has. true≢false (sym (c.is_marked.ensures.1 ((c.requires.marked.marked c.index-step.result.now.0).1 (c.requires.stack.only c.index-step.result.now.0 s has))) ∙ c.if-is_marked.false)
 
 pub span_of-requires-clause-graph : goal.span_of-requires-clause-graph
 span_of-requires-clause-graph g c = let r = c.requires.graph in (r.0, r.1, r.2, r.4)

@@ -2,10 +2,12 @@ use Rattle.std.proofs.Common.{◌≡◌, ◌<◌, [], ◌∷◌, List, ℕ, ℤ,
 use Rattle.std.specs.Prelude.{◌≤ℤ◌, ◌↔◌, ◌⊎◌, Contains, reverse}
 use Rattle.pf_base.proofs.ListLemmas.{Contains-cases, none_in}
 use Rattle.pf_core.proofs.NodeLemmas.{InReach-same}
+use Rattle.pf_deepening.specs.declared.rows.Span.{Span}
 use Rattle.pf_deepening.specs.declared.way.Frame.{Frame}
-use Rattle.pf_deepening.specs.Ways.{IsMarked}
-use Rattle.pf_informed.specs.Internal.Deepening.{numbers_of}
-use Rattle.pf_informed.proofs.KnownLemmas.{more_trans}
+use Rattle.pf_deepening.specs.Ways.{HasSpan, IsMarked}
+use Rattle.pf_informed.specs.Internal.Deepening.{numbers_of, IsStack}
+use Rattle.pf_informed.proofs.KnownLemmas.{start_of_more, start_trans}
+use Rattle.pf_informed.proofs.NestLemmas.{no_stack, stack_entered}
 use Rattle.pf_informed.proofs.WayLemmas.{still_found, marked_on, on_way_as, begun, start_way}
 use Rattle.pf_base.proofs.Outcomes.{if_refused, on_refused, refused_as}
 use Rattle.pf_informed.proofs.Bounds.{at_most_both, none_below}
@@ -38,7 +40,13 @@ turns-init g c =
     ) in
     let on = marked_on [] way.marks.items [] 0 none alone in
     record {
-      more = e.more;
+      start = start_of_more e.more;
+      stack =
+          let opened = rw c.in-Some.is at e.opened in
+          let entered = stack_entered c.args.known.now.rows.steps.items c.args.known.now.rows.spans.items (λ i q h. (c.requires.whole.table.within i q h).0) after.rows.steps.items after.rows.spans.items e.more.steps e.more.spans [] (length (g.M.Numbering.keys c.args.known.now.graph.discovery.nodes)) (length keys) e.more.grows.more c.requires.whole.table.inside
+          (no_stack c.args.known.now.rows.steps.items c.args.known.now.rows.spans.items _ c.requires.unopened) way.frame s (subst (λ (n : ℕ). HasSpan after.rows.spans.items n s) (sym number) has) within.1 opened.0 opened.1 (subst (λ (n : ℕ). n < length (g.M.Numbering.keys c.args.known.now.graph.discovery.nodes)) (sym number) c.requires.begun)
+          (subst (λ (n : ℕ). (i : ℕ) (t : Span) → HasSpan after.rows.spans.items i t → HasSpan c.args.known.now.rows.spans.items i t ⊎ (i ≡ n)) (sym number) e.only) in
+          subst (λ (xs : List (Frame g.row.C.Denot)). IsStack after.rows.steps.items after.rows.spans.items (length keys) (way.frame ∷ xs)) (sym b.below) entered;
       marked = record {
         marked = subst (λ (ns : List ℕ). (i : ℕ) → IsMarked way.marks.items i ↔ Contains ns i) (sym frames) on;
         inside = λ i m. elim (Contains-cases [] 0 i (subst (λ (ns : List ℕ). Contains ns i) frames m)) as (λ _. i < length keys) [
@@ -62,6 +70,9 @@ span_of-requires-clause-inside g c = c.requires.begun
 pub span_of-requires-clause-whole : goal.span_of-requires-clause-whole
 span_of-requires-clause-whole g c = c.requires.whole
 
+pub span_of-requires-clause-unopened : goal.span_of-requires-clause-unopened
+span_of-requires-clause-unopened g c = c.requires.unopened 0
+
 pub span_of-requires-clause-graph : goal.span_of-requires-clause-graph
 span_of-requires-clause-graph g c = let r = c.requires.graph in (r.0, r.1, r.2, r.4)
 
@@ -73,8 +84,9 @@ turn-requires-clause-graph g c =
 
 pub turns-preserved : goal.turns-preserved
 turns-preserved g c = record {
-  more = more_trans c.turns.invariant.more c.in_ok-round.ensures.more;
+  start = start_trans c.turns.invariant.start c.in_ok-round.ensures.start;
   marked = rw c.in_default-2.is at c.in_ok-round.ensures.marked;
+  stack = rw c.in_default-2.is at c.in_ok-round.ensures.stack;
   searched = λ h test least first k s low.
       let v = c.turns.invariant.searched h test least first k s low in
       rw c.in_default-2.is at (c.in_ok-round.ensures.graph h test least first v.0 v.1);
@@ -82,7 +94,8 @@ turns-preserved g c = record {
 
 pub returns-in_err-span : goal.returns-in_err-span
 returns-in_err-span g c = record {
-  more = on_refused _ c.from_residual.result _ c.from_residual.ensures.1;
+  start = on_refused _ c.from_residual.result _ c.from_residual.ensures.1;
+  unopened = if_refused _ c.from_residual.result _ c.from_residual.ensures.1;
   round = if_refused _ c.from_residual.result _ c.from_residual.ensures.1;
   graph = λ h test least first k s low. if_refused _ c.from_residual.result _ c.from_residual.ensures.1;
   refused = refused_as _ c.from_residual.result _ c.from_residual.ensures.1 c.in_err-span.ensures.refused;
@@ -90,7 +103,8 @@ returns-in_err-span g c = record {
 
 pub returns-in_err-numbers : goal.returns-in_err-numbers
 returns-in_err-numbers g c = record {
-  more = on_refused _ c.from_residual-in_err-numbers.result _ c.from_residual-in_err-numbers.ensures.1;
+  start = on_refused _ c.from_residual-in_err-numbers.result _ c.from_residual-in_err-numbers.ensures.1;
+  unopened = if_refused _ c.from_residual-in_err-numbers.result _ c.from_residual-in_err-numbers.ensures.1;
   round = if_refused _ c.from_residual-in_err-numbers.result _ c.from_residual-in_err-numbers.ensures.1;
   graph = λ h test least first k s low. if_refused _ c.from_residual-in_err-numbers.result _ c.from_residual-in_err-numbers.ensures.1;
   refused = refused_as _ c.from_residual-in_err-numbers.result _ c.from_residual-in_err-numbers.ensures.1 c.in_err-numbers.ensures.refused;
@@ -98,7 +112,8 @@ returns-in_err-numbers g c = record {
 
 pub returns-in_err-way : goal.returns-in_err-way
 returns-in_err-way g c = record {
-  more = on_refused _ c.from_residual-in_err-way.result _ c.from_residual-in_err-way.ensures.1;
+  start = on_refused _ c.from_residual-in_err-way.result _ c.from_residual-in_err-way.ensures.1;
+  unopened = if_refused _ c.from_residual-in_err-way.result _ c.from_residual-in_err-way.ensures.1;
   round = if_refused _ c.from_residual-in_err-way.result _ c.from_residual-in_err-way.ensures.1;
   graph = λ h test least first k s low. if_refused _ c.from_residual-in_err-way.result _ c.from_residual-in_err-way.ensures.1;
   refused = refused_as _ c.from_residual-in_err-way.result _ c.from_residual-in_err-way.ensures.1 c.in_err-way.ensures.refused;
@@ -106,7 +121,8 @@ returns-in_err-way g c = record {
 
 pub returns-in_err-round : goal.returns-in_err-round
 returns-in_err-round g c = record {
-  more = on_refused _ c.from_residual-in_err-round.result _ c.from_residual-in_err-round.ensures.1;
+  start = on_refused _ c.from_residual-in_err-round.result _ c.from_residual-in_err-round.ensures.1;
+  unopened = if_refused _ c.from_residual-in_err-round.result _ c.from_residual-in_err-round.ensures.1;
   round = if_refused _ c.from_residual-in_err-round.result _ c.from_residual-in_err-round.ensures.1;
   graph = λ h test least first k s low. if_refused _ c.from_residual-in_err-round.result _ c.from_residual-in_err-round.ensures.1;
   refused = refused_as _ c.from_residual-in_err-round.result _ c.from_residual-in_err-round.ensures.1 c.in_err-round.ensures.refused;
@@ -114,7 +130,8 @@ returns-in_err-round g c = record {
 
 pub returns-in-Some-2 : goal.returns-in-Some-2
 returns-in-Some-2 g c = record {
-  more = more_trans c.turns.invariant.more c.in_ok-round.ensures.more;
+  start = start_trans c.turns.invariant.start c.in_ok-round.ensures.start;
+  unopened = rw c.in-Some-2.is at c.in_ok-round.ensures.stack;
   graph = λ h test least first k s low.
       let v = c.turns.invariant.searched h test least first k s low in
       rw c.in-Some-2.is at (c.in_ok-round.ensures.graph h test least first v.0 v.1);
@@ -123,10 +140,13 @@ returns-in-Some-2 g c = record {
 }
 
 pub turn-requires-clause-whole : goal.turn-requires-clause-whole
-turn-requires-clause-whole g c = c.turns.invariant.more.whole
+turn-requires-clause-whole g c = c.turns.invariant.start.whole
 
 pub turn-requires-clause-marked : goal.turn-requires-clause-marked
 turn-requires-clause-marked g c = c.turns.invariant.marked
+
+pub turn-requires-clause-stack : goal.turn-requires-clause-stack
+turn-requires-clause-stack g c = c.turns.invariant.stack
 
 pub turns-smaller : goal.turns-smaller
 turns-smaller g c = rw c.in_default-2.is at c.in_ok-round.ensures.less
@@ -143,7 +163,8 @@ returns-in_default g c = record {
       let nothing : value c.zero-nothing.result ≡ pos 0 = ap value c.zero-nothing.ensures ∙ g.met.C.Zero.zero_law g.met.C.Integral.exact_law in
       let from = k.led.admissible.from_zero first (InReach-same eq laws h.edges h.starts s.0 first (k.led.explores.reached 0 s.0 s.1) s.2) in
       (told.0, (start_way eq laws value g.C.Number.fits h test least first keys here (told.1 first here) c.in_ok-numbers.numbers.items c.in_ok-numbers.ensures.numbers (value c.zero-nothing.result) nothing, subst (λ (z : ℤ). z ≤ℤ value c.args.limit) (sym nothing) (at_most_both _ _ _ from low)));
-  more = c.in_ok-span.ensures.more;
+  start = start_of_more c.in_ok-span.ensures.more;
+  unopened = tt;
   refused = tt;
   round = λ i m.
       let keys = g.M.Numbering.keys c.span_of.new.self.graph.discovery.nodes in

@@ -1,29 +1,15 @@
-use Rattle.std.proofs.Common.{◌≡◌, List, ℕ, true, false, length, ◌∙◌, sym, subst, slice_get, Option, Some, None, is_some, true≢false, ◌<◌, ◌≤◌}
-use Rattle.std.specs.Prelude.{◌++◌, ◌+◌, MatchOption, ⊤}
+use Rattle.std.proofs.Common.{◌≡◌, List, ℕ, length, ◌∙◌, sym, subst, slice_get, Some, ◌<◌, ◌≤◌, inl, inr}
+use Rattle.std.specs.Prelude.{◌++◌, ◌+◌, ◌⊎◌}
 use Rattle.pf_core.specs.Nodes.{StandsFor}
 use Rattle.pf_base.proofs.ListLemmas.{get-append}
 use Rattle.pf_core.proofs.SearchLemmas.{Grows-trans}
 use Rattle.pf_deepening.specs.Ways.{HasSpan}
 use Rattle.pf_informed.specs.Internal.Rows.{IsCheapStep, IsTable}
-use Rattle.pf_informed.proofs.KnownLemmas.{more_refl, table_more, rows_more, rows_grown, cheap_sound, cheap_complete}
+use Rattle.pf_informed.proofs.KnownLemmas.{table_more, rows_more, rows_grown, cheap_sound, cheap_complete}
 use Rattle.pf_informed.proofs.LedLemmas.{with_test, led_grown, led_more}
 use Rattle.pf_base.proofs.Outcomes.{if_refused, on_refused, refused_as}
 use Rattle.pf_informed.proofs.Bounds.{below_more}
 use Rattle.pf_informed.proofs.directed.idastar.known.Known.span_of.Goals as goal
-
--- nothing was kept of the number
-none_of : {A : Type 0} (o : Option A) (P : Type 0) (Q : A → Type 0) → is_some o ≡ false → MatchOption o P Q → P
-none_of None P Q e h = h
-none_of (Some x) P Q e h = absurd (true≢false e)
-
--- something was kept of the number
-some_of : {A : Type 0} (o : Option A) (P : Type 0) (Q : A → Type 0) → MatchOption o P Q → MatchOption o ⊤ Q
-some_of None P Q h = tt
-some_of (Some x) P Q h = h
-
-some_any : {A : Type 0} (o : Option A) (P : Type 0) → is_some o ≡ true → MatchOption o P (λ _. ⊤)
-some_any None P e = absurd (true≢false (sym e))
-some_any (Some x) P e = tt
 
 pub is_goal-requires-clause-graph : goal.is_goal-requires-clause-graph
 is_goal-requires-clause-graph g c =
@@ -43,6 +29,8 @@ returns-then-is_goal g c = record {
     spans = λ k s h. h;
   };
   kept = tt;
+  opened = tt;
+  only = λ k s h. inl h;
   graph = λ h test least k.
       let eq = g.N.PartialEq.eq in
       let laws = g.met.N.Eq.laws in
@@ -83,7 +71,6 @@ returns g c = record {
       let e = c.in_ok-span.ensures in
       let kept = subst (λ (xs : List (ℕ × g.row.C.Denot)). c.keep.new.self.steps.items ≡ c.args.self.now.rows.steps.items ++ xs) c.deref.ensures.value e.steps in
       let end = subst (λ (xs : List (ℕ × g.row.C.Denot)). c.in_ok-span.span.end ≡ length c.args.self.now.rows.steps.items + length xs) c.deref.ensures.value e.span.1 in
-      let none = none_of c.span-span.result _ _ (sym c.is_some.ensures ∙ c.if-is_some.false) c.span-span.ensures in
       record {
         whole = record {
           asked = c.in_ok-ask.ensures.all;
@@ -92,9 +79,11 @@ returns g c = record {
         };
         grows = grows;
         steps = λ i x h. subst (λ (xs : List (ℕ × g.row.C.Denot)). slice_get xs i ≡ Some x) (sym e.steps) (get-append c.args.self.now.rows.steps.items c.deref.result.now i x h);
-        spans = λ k s h. e.others k s (λ q. none s (subst (λ (n : ℕ). HasSpan c.args.self.now.rows.spans.items n s) q h)) h;
+        spans = λ k s h. e.others k s (λ q. c.requires.unopened s (subst (λ (n : ℕ). HasSpan c.args.self.now.rows.spans.items n s) q h)) h;
       };
   kept = c.in_ok-span.ensures.kept;
+  opened = let e = c.in_ok-span.ensures in (e.span.0, e.span.2 ∙ c.node_count-found.ensures);
+  only = λ k s h. elim (c.in_ok-span.ensures.from k s h) as (λ _. HasSpan c.args.self.now.rows.spans.items k s ⊎ (k ≡ c.args.number)) [ inl o ↦ inl o | inr q ↦ inr q.0 ];
   graph = λ h test least k.
       let eq = g.N.PartialEq.eq in
       let laws = g.met.N.Eq.laws in
@@ -130,6 +119,8 @@ pub returns-in_err-expand : goal.returns-in_err-expand
 returns-in_err-expand g c = record {
   more = on_refused _ c.from_residual.result _ c.from_residual.ensures.1;
   kept = if_refused _ c.from_residual.result _ c.from_residual.ensures.1;
+  opened = if_refused _ c.from_residual.result _ c.from_residual.ensures.1;
+  only = on_refused _ c.from_residual.result _ c.from_residual.ensures.1;
   graph = λ h test least k. if_refused _ c.from_residual.result _ c.from_residual.ensures.1;
   refused = refused_as _ c.from_residual.result _ c.from_residual.ensures.1 c.in_err-expand.ensures.refused.0;
 }
@@ -138,6 +129,8 @@ pub returns-in_err-ask : goal.returns-in_err-ask
 returns-in_err-ask g c = record {
   more = on_refused _ c.from_residual-in_err-ask.result _ c.from_residual-in_err-ask.ensures.1;
   kept = if_refused _ c.from_residual-in_err-ask.result _ c.from_residual-in_err-ask.ensures.1;
+  opened = if_refused _ c.from_residual-in_err-ask.result _ c.from_residual-in_err-ask.ensures.1;
+  only = on_refused _ c.from_residual-in_err-ask.result _ c.from_residual-in_err-ask.ensures.1;
   graph = λ h test least k. if_refused _ c.from_residual-in_err-ask.result _ c.from_residual-in_err-ask.ensures.1;
   refused = refused_as _ c.from_residual-in_err-ask.result _ c.from_residual-in_err-ask.ensures.1 c.in_err-ask.ensures.refused;
 }
@@ -146,16 +139,10 @@ pub returns-in_err-span : goal.returns-in_err-span
 returns-in_err-span g c = record {
   more = on_refused _ c.from_residual-in_err-span.result _ c.from_residual-in_err-span.ensures.1;
   kept = if_refused _ c.from_residual-in_err-span.result _ c.from_residual-in_err-span.ensures.1;
+  opened = if_refused _ c.from_residual-in_err-span.result _ c.from_residual-in_err-span.ensures.1;
+  only = on_refused _ c.from_residual-in_err-span.result _ c.from_residual-in_err-span.ensures.1;
   graph = λ h test least k. if_refused _ c.from_residual-in_err-span.result _ c.from_residual-in_err-span.ensures.1;
   refused = refused_as _ c.from_residual-in_err-span.result _ c.from_residual-in_err-span.ensures.1 c.in_err-span.ensures.refused;
-}
-
-pub returns-then-is_some : goal.returns-then-is_some
-returns-then-is_some g c = record {
-  more = more_refl c.requires.whole;
-  kept = some_of c.span-span.result _ _ c.span-span.ensures;
-  graph = λ h test least k. (k, some_any c.span-span.result _ (sym c.is_some.ensures ∙ c.if-is_some.true));
-  refused = tt;
 }
 
 pub is_goal-requires-clause-inside : goal.is_goal-requires-clause-inside
