@@ -5,7 +5,6 @@ use Rattle.std.specs.declared.cmp.Reverse.{Reverse}
 use Rattle.std.specs.declared.cmp.Ordering.TheVariants.{Greater}
 use Rattle.std.proofs.lemmas.List.Sorted.{Contains-permutation, IsPermutation-sym}
 use Rattle.std.proofs.lemmas.Bool.{cases_Bool, cases_order}
-use Rattle.std.proofs.lemmas.Option.{slice_get_within}
 use Rattle.pf_graph.specs.declared.undirected.chains.Chains.{Chains}
 use Rattle.pf_graph.specs.declared.undirected.steps.Step.{Step}
 use Rattle.pf_graph.specs.Internal.Spanning.Chained.{IsLastBefore}
@@ -71,17 +70,7 @@ module _ {N C : Type 0} where
   }
 
   module _ {A : Type 0} (chains : Chains N C A) where
-    -- ---- the steps from a number are put in
-
-    -- none yet: the last edge at the number stands before the place
-    pub Gains-none : (k first : ℕ) (covered : List Bool) (queue : List (Reverse (Step N C))) → IsLastBefore chains.ends.items k (length chains.ends.items) first → Gains chains k first covered queue queue
-    Gains-none k first covered queue last = record {
-      from = λ r c. inl c;
-      kept = λ r c. c;
-      all = λ p n e up r m. absurd (last.none_behind p r.ends r.ends_at up (slice_get_within chains.ends.items p r.ends r.ends_at) (is_at chains p k n e r));
-    }
-
-    -- the step over the edge at a place is put in, where it leads to a number that is not covered; before that place the last edge at the number is at the place before `first`
+    -- after those over the edges from the place `next` on also the step over the edge just before it is put in, or leads to a covered number; then none is left from the place `first` on
     pub Gains-more : (k p next first : ℕ) (covered : List Bool) (queue between queue' : List (Reverse (Step N C))) (s : Step N C) → p + 1 ≡ next → IsMarked true covered k → IsStepAt chains p k s → IsLastBefore chains.ends.items k p first
         → ((r : Reverse (Step N C)) → Contains queue' r → (waiting s ≡ r) ⊎ Contains between r) → ((r : Reverse (Step N C)) → Contains between r → Contains queue' r)
         → (IsMarked false covered s.number → Contains queue' (waiting s)) → Gains chains k next covered queue between → Gains chains k first covered queue queue'

@@ -18,17 +18,17 @@ use std::alloc::Allocator;
 /// number, or 0 where there is none. A graph has two ends for each edge, so an end takes 8 bytes.
 #[derive(Clone, Copy)]
 pub struct End {
-    pub number: u32,
-    pub earlier: u32,
+    number: u32,
+    earlier: u32,
 }
 
 /// Edges that others own, and the ends of each.
 #[derive(Drop)]
 pub struct Chains<'a, N, C, A: Allocator> {
-    pub edges: &'a [(N, N, C)],
-    pub ends: Vec<(End, End), A>,
+    edges: &'a [(N, N, C)],
+    ends: Vec<(End, End), A>,
     /// By number, one more than the place of the last edge at it, or 0 where there is none.
-    pub lasts: Vec<u32, A>,
+    lasts: Vec<u32, A>,
 }
 
 /// The edges in chains, by the numbers of their ends. The numbered edges are dropped here, before any
@@ -71,6 +71,15 @@ where
 }
 
 impl<'a, N, C, A: Allocator> Chains<'a, N, C, A> {
+    /// One more than the place of the last edge at a number, or 0 where there is none.
+    pub fn last(&self, number: usize) -> usize
+        requires chained { AreChained self.now }
+        requires inside { number < length self.now.lasts.items }
+        ensures { IsLastBefore self.now.ends.items number (length self.now.ends.items) result }
+    {
+        self.lasts[number] as usize
+    }
+
     /// The step from the number `from` over the edge at a place, and one more than the place of the
     /// last edge before it at that number, or 0. An edge with this number at both ends is taken as it
     /// is written.

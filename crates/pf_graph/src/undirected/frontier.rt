@@ -79,7 +79,7 @@ where
     ensures gains { OnOk result (Gains chains.now number 0 covered.now (heap_items queue.old) (heap_items queue.new)) }
     ensures refused { IfErr result (λ e. e ≡ OutOfMemory) }
 {
-    let mut last = chains.lasts[number] as usize;
+    let mut last = chains.last(number);
     'edges: while last > 0 {
         let (step, earlier) = chains.step(last - 1, number);
         if !covered[step.number as usize] {
