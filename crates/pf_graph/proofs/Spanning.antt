@@ -9,7 +9,7 @@ pub mod SumLemmas
 pub mod WeightLemmas
 pub mod TreeLemmas
 pub mod FrontierLemmas
-pub mod StepLemmas
+pub mod ChainLemmas
 pub mod GrowLemmas
 pub mod PrimLemmas
 pub mod TreeLawLemmas

@@ -1,5 +1,6 @@
 //! Undirected graphs: minimum spanning forests.
 
+mod chains;
 mod exact_sum;
 mod frontier;
 pub mod kruskal;

@@ -1,18 +1,17 @@
 -- A tree that is grown over numbers, for the edges that were numbered.
-use Rattle.std.proofs.Common.{ℕ, zero, suc, ◌<◌, ◌≡◌, sym, ◌∙◌, ap, subst, Bool, true, false, List, length, replicate, Some, None, Vec}
+use Rattle.std.proofs.Common.{ℕ, zero, suc, ◌<◌, ◌≡◌, sym, ◌∙◌, ap, subst, Bool, true, false, List, length, replicate, Some, None}
 use Rattle.std.specs.Prelude.{map, slice_get}
 use Rattle.std.specs.Borrow.{Bor}
 use Rattle.std.specs.Option.{option_map}
 use Rattle.std.proofs.lemmas.Option.{slice_get-map, slice_get_within}
-use Rattle.pf_graph.specs.declared.undirected.steps.Step.{Step}
 use Rattle.pf_graph.specs.declared.undirected.weighed.Weighed.{Weighed}
 use Rattle.pf_graph.specs.Internal.NumberedEdges.{IsNumbered}
 use Rattle.pf_union_find.specs.Nodes.{StandsFor}
 use Rattle.pf_graph.specs.GrownTree.{StartsAt}
-use Rattle.pf_graph.specs.Internal.Spanning.Frontier.{IsMarked, HasStep, HoldSteps, AreRows}
+use Rattle.pf_graph.specs.Internal.Spanning.Frontier.{IsMarked}
 use Rattle.pf_union_find.proofs.ListLemmas.{get_contains}
 use Rattle.pf_base.proofs.ListLemmas.{none_in}
-use Rattle.pf_graph.proofs.Spanning.StepLemmas.{AreRows-numbered}
+use Rattle.pf_graph.proofs.Spanning.ChainLemmas.{written_at}
 
 -- where no number is marked
 pub no_mark : (n k : ℕ) → ¬ (IsMarked true (replicate n false) k)
@@ -23,7 +22,7 @@ no_mark (suc n) (suc k) m = no_mark n k m
 module _ {N C W : Type 0} (edges : List (N × N × C)) (numbered : List (ℕ × ℕ × Weighed N C W)) (in_order : map (λ (e : ℕ × ℕ × Weighed N C W). e.2.edge.now) numbered ≡ edges) where
   -- the first of the edges
   pub first_is : (first : ℕ × ℕ × Weighed N C W) → slice_get numbered 0 ≡ Some first → slice_get edges 0 ≡ Some first.2.edge.now
-  first_is first at = subst (λ es. slice_get es 0 ≡ Some first.2.edge.now) in_order (slice_get-map (λ (e : ℕ × ℕ × Weighed N C W). e.2.edge.now) numbered 0 ∙ ap (option_map (λ (e : ℕ × ℕ × Weighed N C W). e.2.edge.now)) at)
+  first_is first at = written_at edges numbered in_order 0 first at
 
   pub start_is : (first : ℕ × ℕ × Weighed N C W) → slice_get numbered 0 ≡ Some first → (start : N) → StartsAt edges start → first.2.edge.now.0 ≡ start
   start_is first at start s =
@@ -38,16 +37,10 @@ module _ {N C W : Type 0} (edges : List (N × N × C)) (numbered : List (ℕ × 
       let f : Some s.0 ≡ None = sym s.1 ∙ e in
       cc
 
-  module _ {A : Type 0} {eq : N → N → Bool} (nodes : List (Bor N)) (h : IsNumbered eq nodes edges numbered) (rows : List (Vec (Step N C) A)) (steps : HoldSteps numbered rows) (len : length rows ≡ length nodes) where
-    pub are_rows : AreRows eq nodes edges rows
-    are_rows = AreRows-numbered nodes edges numbered rows h steps len
+  -- the number of the first node of the first edge
+  module _ {eq : N → N → Bool} (nodes : List (Bor N)) (h : IsNumbered eq nodes edges numbered) (first : ℕ × ℕ × Weighed N C W) (at : slice_get numbered 0 ≡ Some first) where
+    pub first_stands : StandsFor eq nodes first.0 first.2.edge.now.0
+    first_stands = (h.from first (get_contains numbered 0 first at)).1
 
-    pub steps_inside : (k : ℕ) (s : Step N C) → HasStep rows k s → s.number < length rows
-    steps_inside k s c = subst (λ (n : ℕ). s.number < n) (sym len) (let r = are_rows.from k s c in slice_get_within nodes s.number r.1.0 r.1.1)
-
-    module _ (first : ℕ × ℕ × Weighed N C W) (at : slice_get numbered 0 ≡ Some first) where
-      pub first_stands : StandsFor eq nodes first.0 first.2.edge.now.0
-      first_stands = (h.from first (get_contains numbered 0 first at)).1
-
-      pub first_inside : first.0 < length rows
-      first_inside = subst (λ (n : ℕ). first.0 < n) (sym len) (slice_get_within nodes first.0 first_stands.0 first_stands.1)
+    pub first_inside : first.0 < length nodes
+    first_inside = slice_get_within nodes first.0 first_stands.0 first_stands.1

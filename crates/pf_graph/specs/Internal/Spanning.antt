@@ -1,2 +1,3 @@
 pub mod SpanningSteps
+pub mod Chained
 pub mod Frontier

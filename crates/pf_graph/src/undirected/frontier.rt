@@ -4,13 +4,14 @@
 //! are stale by then, and are passed over.
 
 ghost use Rattle.std.specs.BinaryHeap.{IsHeap, heap_items, heap_len};
-ghost use Rattle.std.specs.Prelude.{◌≡◌, ◌≢◌, ◌<◌, ◌+◌, ℕ, true, ◌∷◌, [], IfErr, OnOk, OnSome, Contains, IsPermutation, MatchOption, length, slice_set};
+ghost use Rattle.std.specs.Prelude.{◌≡◌, ◌≢◌, ◌<◌, ◌+◌, true, ◌∷◌, [], IfErr, OnOk, OnSome, Contains, IsPermutation, MatchOption, length, slice_set};
 ghost use Rattle.std.specs.declared.cmp.Ordering.TheVariants.{Greater};
 ghost use Rattle.std.specs.declared.cmp.Reverse.{Reverse};
 ghost use Rattle.pf_base.specs.declared.error.PathError.TheVariants.{OutOfMemory};
 ghost use Rattle.pf_graph.specs.declared.undirected.steps.Step.{Step};
-ghost use Rattle.pf_graph.specs.Internal.Spanning.Frontier.{HasStep, WaitsSave, Waits, Gains, TakesLeast, NoneLeaves, waiting_order, step_order};
+ghost use Rattle.pf_graph.specs.Internal.Spanning.Frontier.{AreChained, IsMarked, WaitsSave, Waits, Gains, TakesLeast, NoneLeaves, waiting_order, step_order};
 
+use crate::undirected::chains::Chains;
 use crate::undirected::steps::Step;
 use pf_base::PathError;
 use std::alloc::Allocator;
@@ -59,26 +60,32 @@ where
     None
 }
 
-/// Puts in the steps of a row that lead to numbers that are not covered.
+/// Puts in the steps from a covered number that lead to numbers that are not covered.
 fn push_leaving<'a, N, C, A>(
     queue: &mut Queue<'a, N, C, A>,
     covered: &[bool],
-    row: &[Step<'a, N, C>],
+    chains: &Chains<'a, N, C, A>,
+    number: usize,
 ) -> Result<(), PathError>
 where
     N: Ord,
     C: Ord,
     A: Allocator,
-    requires inside { (s : Step N C) → Contains row.now s → s.number < length covered.now }
+    requires chained { AreChained chains.now }
+    requires len { length covered.now ≡ length chains.now.lasts.items }
+    requires covered { IsMarked true covered.now number }
     requires ordered { IsHeap (waiting_order N.cmp C.cmp) (heap_items queue.old) }
     ensures ordered { OnOk result (IsHeap (waiting_order N.cmp C.cmp) (heap_items queue.new)) }
-    ensures gains { OnOk result (Gains row.now covered.now (heap_items queue.old) (heap_items queue.new)) }
+    ensures gains { OnOk result (Gains chains.now number 0 covered.now (heap_items queue.old) (heap_items queue.new)) }
     ensures refused { IfErr result (λ e. e ≡ OutOfMemory) }
 {
-    'steps: for step in row {
+    let mut last = chains.last(number);
+    'edges: while last > 0 {
+        let (step, earlier) = chains.step(last - 1, number);
         if !covered[step.number as usize] {
-            queue.push(Reverse(*step))?;
+            queue.push(Reverse(step))?;
         }
+        last = earlier;
     }
     Ok(())
 }
@@ -87,23 +94,23 @@ where
 pub fn cover<'a, N, C, A>(
     covered: &mut [bool],
     queue: &mut Queue<'a, N, C, A>,
-    rows: &[Vec<Step<'a, N, C>, A>],
+    chains: &Chains<'a, N, C, A>,
     number: usize,
 ) -> Result<(), PathError>
 where
     N: Ord,
     C: Ord,
     A: Allocator,
-    requires len { length covered.old ≡ length rows.now }
-    requires inside { number < length rows.now }
-    requires steps { (k : ℕ) (s : Step N C) → HasStep rows.now k s → s.number < length rows.now }
-    requires waits { WaitsSave rows.now covered.old number (heap_items queue.old) }
+    requires chained { AreChained chains.now }
+    requires len { length covered.old ≡ length chains.now.lasts.items }
+    requires inside { number < length chains.now.lasts.items }
+    requires waits { WaitsSave chains.now covered.old number (heap_items queue.old) }
     requires ordered { IsHeap (waiting_order N.cmp C.cmp) (heap_items queue.old) }
     ensures covered { OnOk result (covered.new ≡ slice_set covered.old number true) }
-    ensures waits { OnOk result (Waits rows.now covered.new (heap_items queue.new)) }
+    ensures waits { OnOk result (Waits chains.now covered.new (heap_items queue.new)) }
     ensures ordered { OnOk result (IsHeap (waiting_order N.cmp C.cmp) (heap_items queue.new)) }
     ensures refused { IfErr result (λ e. e ≡ OutOfMemory) }
 {
     covered[number] = true;
-    push_leaving(queue, covered, &rows[number])
+    push_leaving(queue, covered, chains, number)
 }

@@ -24,7 +24,7 @@ pub struct NumberedEdges<'a, N, C, W, A: Allocator> {
 }
 
 /// A number as one of 32 bits.
-fn narrowed(number: usize) -> Result<u32, PathError>
+pub fn narrowed(number: usize) -> Result<u32, PathError>
     ensures same { IfOk result (λ n. n ≡ number) }
     ensures refused { IfErr result (λ e. e ≡ OutOfMemory) }
 {

@@ -4,16 +4,15 @@ ghost use Rattle.std.specs.Prelude.{◌≡◌, ◌<◌, ℕ, true, List, [], IfO
 ghost use Rattle.std.specs.Borrow.{Bor};
 ghost use Rattle.pf_base.specs.Answers.{IsLawfulClone};
 ghost use Rattle.pf_base.specs.declared.error.PathError.TheVariants.{OutOfMemory};
-ghost use Rattle.pf_graph.specs.declared.undirected.steps.Step.{Step};
-ghost use Rattle.pf_graph.specs.Internal.Spanning.Frontier.{AreRows, HasStep, IsMarked};
+ghost use Rattle.pf_graph.specs.Internal.Spanning.Frontier.{AreChained, IsMarked, RunsAsWritten};
 ghost use Rattle.pf_graph.specs.EdgesByReference.{shown};
 ghost use Rattle.pf_union_find.specs.Nodes.{StandsFor};
 ghost use Rattle.pf_graph.specs.GrownTree.{StartsAt, GrowsByLeast, IsLeastAround, AreChosenEitherWay};
 ghost use Rattle.pf_graph.specs.Spanning.{IsForest};
 
+use crate::undirected::chains::{Chains, chains_of};
 use crate::undirected::frontier::{cover, next_leaving};
 use crate::undirected::numbered::number_edges;
-use crate::undirected::steps::{Step, rows_of};
 use pf_base::PathError;
 use pf_base::filled::filled;
 use std::alloc::Allocator;
@@ -24,7 +23,7 @@ use std::hash::Hash;
 /// is covered before.
 fn grow<'a, N, C, A>(
     alloc: A,
-    rows: &[Vec<Step<'a, N, C>, A>],
+    chains: &Chains<'a, N, C, A>,
     covered: &mut [bool],
     start: usize,
 ) -> Result<Vec<(&'a N, &'a N, C), A>, PathError>
@@ -33,21 +32,21 @@ where
     C: Clone + Ord,
     A: Allocator + Copy,
     requires clones { IsLawfulClone C.eq C.is_clone }
-    requires inside { start < length rows.now }
-    requires len { length covered.old ≡ length rows.now }
+    requires chained { AreChained chains.now }
+    requires inside { start < length chains.now.lasts.items }
+    requires len { length covered.old ≡ length chains.now.lasts.items }
     requires none { (k : ℕ) → ¬ (IsMarked true covered.old k) }
-    requires steps { (k : ℕ) (s : Step N C) → HasStep rows.now k s → s.number < length rows.now }
-    ensures grown { IfOk result (λ tree. (nodes : List (Bor N)) (edges : List (N × N × C)) (x : N) → AreRows N.eq nodes edges rows.now → StandsFor N.eq nodes start x
+    ensures grown { IfOk result (λ tree. (nodes : List (Bor N)) (edges : List (N × N × C)) (x : N) → RunsAsWritten N.eq nodes edges chains.now → StandsFor N.eq nodes start x
         → GrowsByLeast N.eq N.cmp C.cmp edges x (map shown tree.items) × AreChosenEitherWay C.is_clone edges (map shown tree.items)) }
     ensures refused { IfErr result (λ e. e ≡ OutOfMemory) }
 {
     let mut queue = BinaryHeap::new(alloc);
     let mut tree = Vec::new(alloc);
-    cover(covered, &mut queue, rows, start)?;
+    cover(covered, &mut queue, chains, start)?;
     'turns: while let Some(step) = next_leaving(covered, &mut queue) {
         let edge = step.taken();
         tree.push((edge.covered, edge.new, edge.weight.clone()?))?;
-        cover(covered, &mut queue, rows, step.number as usize)?;
+        cover(covered, &mut queue, chains, step.number as usize)?;
     }
     Ok(tree)
 }
@@ -90,7 +89,7 @@ where
     };
     let start = first.0 as usize;
     let count = numbered.count;
-    let rows = rows_of(alloc, count, numbered.edges)?;
+    let chains = chains_of(alloc, edges, count, numbered.edges)?;
     let mut covered = filled(alloc, count, false)?;
-    grow(alloc, &rows, &mut covered, start)
+    grow(alloc, &chains, &mut covered, start)
 }
