@@ -8,6 +8,7 @@ pub mod CheapestLemmas
 pub mod PreorderLemmas
 pub mod DepthWalkLemmas
 pub mod PreorderPaths
+pub mod DescentLemmas
 pub mod ParentLemmas
 pub mod MapLemmas
 pub mod LeastLemmas

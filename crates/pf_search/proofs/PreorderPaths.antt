@@ -1,43 +1,21 @@
 -- Which tree path of a preorder a search answers.
-use Rattle.std.proofs.Common.{◌≡◌, ◌<◌, ℕ, zero, suc, Bool, true, false, true≢false, Option, Some, None, List, [], ◌∷◌, ◌++◌, ◌∙◌, length, length-append, refl, sym, ap, subst, arith, inl, inr}
-use Rattle.std.specs.Prelude.{Contains, Result, Ok}
+use Rattle.std.proofs.Common.{◌≡◌, ◌<◌, ℕ, zero, suc, Bool, true, false, true≢false, List, [], ◌∷◌, ◌++◌, ◌∙◌, length, sym, subst, arith, inl, inr}
+use Rattle.std.specs.Prelude.{Contains}
 use Rattle.std.specs.Cmp.{IsEquivalence}
 use Rattle.std.specs.List.{AllZip}
 use Rattle.std.proofs.lemmas.List.Elements.{Contains-append_cases}
-use Rattle.pf_base.specs.Walks.{HasNode, NoRepeats, end_of, Follows, IsGoalWalk, IsGoalPath, HasNoGoalWalk, IsReachable}
+use Rattle.pf_base.specs.Walks.{NoRepeats, end_of, Follows, IsGoalWalk, IsGoalPath, HasNoGoalWalk, IsReachable}
 use Rattle.pf_base.specs.Answers.{SameNodes}
 use Rattle.pf_base.specs.Successors.{HasSuccessor}
-use Rattle.pf_base.specs.Orders.{last_nodes, IsNextTreePath, IsPreorder, IsWholePreorder}
+use Rattle.pf_base.specs.Orders.{last_nodes, IsPreorder, IsWholePreorder}
 use Rattle.pf_core.specs.Nodes.{StandsFor}
 use Rattle.pf_core.specs.NodeLaws.{StandsFor-inside}
 use Rattle.pf_core.proofs.NodeLemmas.{eq-sym}
 use Rattle.pf_core.proofs.WalkLemmas.{end_same}
-use Rattle.pf_search.specs.Internal.DepthTurns.{DepthGoes}
-use Rattle.pf_search.specs.Internal.Breadth.{found_or}
-use Rattle.pf_search.specs.Internal.Depth.{ArePlaces}
-use Rattle.pf_search.proofs.BreadthLemmas.{Same-sym, Same-length}
+use Rattle.pf_search.proofs.BreadthLemmas.{Same-sym}
 use Rattle.pf_search.proofs.DepthWalkLemmas.{node_at}
 use Rattle.pf_search.proofs.SimplePaths.{reach_step}
-use Rattle.pf_search.proofs.PreorderLemmas.{IsWalked, walked, end_of_push, last_nodes_push, HasNode-right, HasNode-contains, HasNode-found, same_node, same_list, reachable, given_reachable, whole_reach}
-
--- what a step that was not refused answered
-module _ {N E : Type 0} (eq : N → N → Bool) (next : N → List N) (start : N) (walks : List (List N) → Type 0) (paths : List (List N)) where
-  pub goes_none : (r : Result (Option N) E) (o : Option N) → r ≡ Ok o → ((x : N) → ¬ (o ≡ Some x)) → DepthGoes eq next start walks paths r → IsWholePreorder eq next paths
-  goes_none r None e n d = let q = subst (λ (r : Result (Option N) E). DepthGoes eq next start walks paths r) e d in q.0
-  goes_none r (Some x) e n d = absurd (n x refl)
-
-  pub goes_some : (r : Result (Option N) E) (o : Option N) (node : N) → r ≡ Ok o → o ≡ Some node → DepthGoes eq next start walks paths r
-      → (path : List N) × IsNextTreePath eq next start (last_nodes paths) (end_of [] paths) path × SameNodes eq (last_nodes (path ∷ [])) (node ∷ []) × walks (paths ++ path ∷ [])
-  goes_some r o node e f d = subst (λ (r : Result (Option N) E). DepthGoes eq next start walks paths r) (e ∙ ap Ok f) d
-
--- where some node was given, the start was put in
-pub put_in : {N : Type 0} (start : Option N) (nodes : List N) (given : List ℕ) → ArePlaces start nodes given → ¬ (given ≡ []) → found_or start nodes ≡ nodes
-put_in None nodes given h some = refl
-put_in (Some x) nodes given h some = absurd (some h.1)
-
--- behind one more tree path some node was given
-pub some_given : {N : Type 0} (eq : N → N → Bool) (given : List N) (paths : List (List N)) (path : List N) (node : N) → SameNodes eq given (last_nodes (paths ++ path ∷ [])) → SameNodes eq (last_nodes (path ∷ [])) (node ∷ []) → ¬ (given ≡ [])
-some_given eq given paths path node s n e = omega (arith, ap length e, Same-length eq given (last_nodes (paths ++ path ∷ [])) s, ap length (last_nodes_push paths path), length-append (last_nodes paths) (last_nodes (path ∷ [])), Same-length eq (last_nodes (path ∷ [])) (node ∷ []) n)
+use Rattle.pf_search.proofs.PreorderLemmas.{IsWalked, walked, end_of_push, last_nodes_push, HasNode-contains, HasNode-found, same_node, same_list, reachable, given_reachable, whole_reach}
 
 -- numbers that stand for nodes are those of found nodes
 pub numbers_inside : {N : Type 0} (eq : N → N → Bool) (found : List N) (numbers : List ℕ) (nodes : List N) → AllZip (StandsFor eq found) numbers nodes → (k : ℕ) → Contains numbers k → k < length found
@@ -46,15 +24,6 @@ numbers_inside eq found numbers nodes z k c = let q = node_at (StandsFor eq foun
 module _ {N : Type 0} (eq : N → N → Bool) (laws : IsEquivalence eq) (next : N → List N) (start : N) (test : N → Bool) where
   abbrev Reached : N → Type 0
   Reached = IsReachable eq (HasSuccessor eq next) (start ∷ [])
-
-  -- the last node of a tree path is in reach
-  pub node_reached : (paths : List (List N)) (path : List N) (node : N) → IsPreorder eq next start (paths ++ path ∷ []) → SameNodes eq (last_nodes (path ∷ [])) (node ∷ []) → Reached node
-  node_reached paths path node p n =
-      given_reachable eq laws next start (paths ++ path ∷ []) p node (subst (λ l. HasNode eq l node) (sym (last_nodes_push paths path)) (HasNode-right eq (last_nodes paths) (last_nodes (path ∷ [])) node (at (last_nodes (path ∷ [])) n)))
-    where
-      at : (xs : List N) → SameNodes eq xs (node ∷ []) → HasNode eq xs node
-      at [] s = absurd s
-      at (y ∷ ys) s = inl s.0
 
   distinct_same : (xs ys : List N) → SameNodes eq xs ys → NoRepeats eq xs → NoRepeats eq ys
   distinct_same [] [] s d = tt

@@ -2,6 +2,7 @@
 pub mod Deepening
 pub mod Breadth
 pub mod Depth
+pub mod Descents
 pub mod DepthStack
 pub mod Partial
 pub mod Begun

@@ -1,10 +1,7 @@
 -- What contracts of private functions say of a lazy walk in preorder.
-use Rattle.std.specs.Prelude.{◌≡◌, ◌<◌, ℕ, Bool, true, List, [], ◌∷◌, Option, Some, None, slice_get, filter_map, Contains, length}
-use Rattle.pf_base.specs.Answers.{SameNodes}
-use Rattle.pf_base.specs.Successors.{HasSuccessor}
-use Rattle.pf_base.specs.Walks.{IsReachable}
+use Rattle.std.specs.Prelude.{◌≡◌, ◌<◌, ℕ, Bool, List, [], Option, Some, None, slice_get, filter_map, Contains, length}
 use Rattle.pf_discovery.specs.declared.depth_first.DepthFirst.{DepthFirst}
-use Rattle.pf_search.specs.DepthWalks.{DepthWalk, IsDepthWalk}
+use Rattle.pf_search.specs.DepthWalks.{DepthWalk}
 use Rattle.pf_search.specs.Internal.DepthStack.{DepthStack}
 
 -- the nodes at these places, in turn
@@ -23,11 +20,3 @@ walk_with found stack refused successors = record { given = nodes_at found stack
 abbrev pub ArePlaces : {N : Type 0} → Option N → List N → List ℕ → Type 0
 ArePlaces None nodes given = (k : ℕ) → Contains given k → k < length nodes
 ArePlaces (Some start) nodes given = (nodes ≡ []) × (given ≡ [])
-
--- The walk has given no node of this graph yet, and equal nodes have the same successors. The test is answered in reach of the start.
-module _ {N F T : Type 0} (eq : N → N → Bool) (answers : F → (N → Type 0) → (N → List N) → Type 0) (tests : T → (N → Type 0) → (N → Bool) → Type 0) where
-  pub record IsTestedWalk (next : N → List N) (start : N) (test : N → Bool) (walk : DepthWalk N F) (success : T) : Type 0 where
-    pub alike : (x y : N) → IsReachable eq (HasSuccessor eq next) (start ∷ []) x → eq x y ≡ true → SameNodes eq (next x) (next y)
-    pub walks : IsDepthWalk eq answers next start [] walk
-    pub tested : tests success (IsReachable eq (HasSuccessor eq next) (start ∷ [])) test
-    pub tests_alike : (x y : N) → IsReachable eq (HasSuccessor eq next) (start ∷ []) x → eq x y ≡ true → test x ≡ test y

@@ -4,8 +4,10 @@ ghost use Rattle.std.specs.Prelude.{◌≡◌, ◌∷◌, [], List, Bool, IfOk, 
 ghost use Rattle.pf_base.specs.Answers.{IsLawfulClone};
 ghost use Rattle.pf_base.specs.Successors.{AnswersUnweightedSearch, OfUnweightedSearch};
 ghost use Rattle.pf_search.specs.Preorder.{IsFirstTreePathOrNone};
-ghost use Rattle.pf_search.specs.Internal.Depth.{IsTestedWalk};
+ghost use Rattle.pf_search.specs.Internal.Descents.{IsBegunSearch};
 
+use crate::directed::dfs::descent::Descent;
+use crate::directed::dfs_reach::clones_along;
 pub use crate::directed::dfs_reach::{DfsReachable, DfsReachableBy, dfs_reach};
 use indexmap::IndexSet;
 use pf_base::{NodeTest, PathError, SuccessorFunction};
@@ -13,10 +15,13 @@ use pf_discovery::numbering::Numbering;
 use std::alloc::Allocator;
 use std::hash::Hash;
 
-/// The tree path to the first node that passes, on a walk that has given none yet.
+mod descent;
+
+/// The tree path to the first node that passes, where nothing was visited and the start waits.
 fn path_to_first<N, M, F, T, A>(
     alloc: A,
-    walk: &mut DfsReachableBy<M, F, A>,
+    descent: &mut Descent<M, A>,
+    successors: &mut F,
     success: &mut T,
 ) -> Result<Option<Vec<N, A>>, PathError>
 where
@@ -27,22 +32,25 @@ where
     A: Allocator + Copy,
     requires clones { IsLawfulClone N.eq N.is_clone }
     requires graph { (next : N → List N) × (start : N) × (test : N → Bool)
-        × IsTestedWalk N.eq F.answers T.answers next start test walk.old success.old }
+        × IsBegunSearch N.eq F.answers T.answers next start test (M.keys descent.old.visited) descent.old.path.items descent.old.waiting.items successors.old success.old }
 
     ensures first { (next : N → List N) (start : N) (test : N → Bool)
-        → IsTestedWalk N.eq F.answers T.answers next start test walk.old success.old
+        → IsBegunSearch N.eq F.answers T.answers next start test (M.keys descent.old.visited) descent.old.path.items descent.old.waiting.items successors.old success.old
         → IfOk result (IsFirstTreePathOrNone N.eq next start test) }
 
     ensures errors { IfErr result (λ e. e ≡ PathError.OutOfMemory) }
 {
     'nodes: for _ in 0..usize::MAX {
-        let Some(node) = walk.step()? else {
+        let Some(number) = descent.enter()? else {
             return Ok(None);
         };
-        if success.passes(&node) {
-            let path = walk.path(alloc)?;
+        if success.passes(&descent.visited.as_slice()[number]) {
+            let path = clones_along(alloc, descent.visited.as_slice(), &descent.path)?;
             return Ok(Some(path));
         }
+        let depth = descent.depth()?;
+        let items = successors.successors(&descent.visited.as_slice()[number]);
+        descent.put(items, depth)?;
     }
     // So many nodes have no room.
     Err(PathError::OutOfMemory)
@@ -58,7 +66,7 @@ pub fn dfs_over<N, M, F, T, A>(
     alloc: A,
     nodes: M,
     start: N,
-    successors: F,
+    mut successors: F,
     mut success: T,
 ) -> Result<Option<Vec<N, A>>, PathError>
 where
@@ -76,8 +84,9 @@ where
 
     ensures errors { IfErr result (λ e. e ≡ PathError.OutOfMemory) }
 {
-    let mut walk = DfsReachableBy::over(alloc, nodes, start, successors);
-    path_to_first(alloc, &mut walk, &mut success)
+    let mut descent = Descent::new(alloc, nodes);
+    descent.begin(start)?;
+    path_to_first(alloc, &mut descent, &mut successors, &mut success)
 }
 
 /// The tree path of a depth-first search from the start to the first node that passes `success`, or

@@ -36,7 +36,11 @@ pub struct DfsReachableBy<M: Numbering, F, A: Allocator> {
 pub type DfsReachable<N, F, A = Global> = DfsReachableBy<Nodes<N, A>, F, A>;
 
 /// Clones of the nodes that the numbers of a path stand for.
-fn clones_along<N, A>(alloc: A, nodes: &[N], numbers: &[u32]) -> Result<Vec<N, A>, PathError>
+pub(crate) fn clones_along<N, A>(
+    alloc: A,
+    nodes: &[N],
+    numbers: &[u32],
+) -> Result<Vec<N, A>, PathError>
 where
     N: Eq + Clone + Drop,
     A: Allocator + Copy,
@@ -114,24 +118,6 @@ where
                 Ok(Some(node))
             }
         }
-    }
-}
-
-impl<N, M, F, A> DfsReachableBy<M, F, A>
-where
-    N: Eq + Clone + Drop,
-    M: Numbering<Node = N>,
-    A: Allocator + Copy,
-{
-    /// Clones of the nodes of the last tree path.
-    pub(crate) fn path(&self, alloc: A) -> Result<Vec<N, A>, PathError>
-        requires clones { IsLawfulClone N.eq N.is_clone }
-        requires given { ¬ (self.now.given ≡ []) }
-        requires inside { (k : ℕ) → Contains self.now.stack.path k → k < length self.now.found }
-        ensures nodes { IfOk result (λ path. AllZip (StandsFor N.eq self.now.found) self.now.stack.path path.items) }
-        ensures refused { IfErr result (λ e. e ≡ PathError.OutOfMemory) }
-    {
-        clones_along(alloc, self.graph.nodes.as_slice(), &self.walk.path)
     }
 }
 
