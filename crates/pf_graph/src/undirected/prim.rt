@@ -65,7 +65,7 @@ where
 /// Weights need an order alone; where they are costs, the law `least_tree_weight` gives that no forest
 /// of the edges that joins the same nodes has a lower total weight.
 ///
-/// The only error is `OutOfMemory`.
+/// The only error is `OutOfMemory`, with which 2^32 edges and more are refused too.
 pub fn prim<'a, N, C, A>(
     alloc: A,
     edges: &'a [(N, N, C)],
