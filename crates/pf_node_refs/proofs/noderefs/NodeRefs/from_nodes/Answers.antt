@@ -42,3 +42,9 @@ returns-clause-given g c = record {
 
 pub returns-clause-once : goal.returns-clause-once
 returns-clause-once g c = NoRepeats-distinct g.met.N.Eq.laws c.loop-node.kept.keys c.loop-node.invariant.1
+
+pub next-requires : goal.next-requires
+next-requires g c = c.loop-node.iterator.0
+
+pub loop-node-smaller : goal.loop-node-smaller
+loop-node-smaller g c = (c.in-Some.ensures.goes.on c.loop-node.iterator.1).2
