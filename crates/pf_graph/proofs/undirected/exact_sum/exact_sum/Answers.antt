@@ -1,11 +1,18 @@
-use Rattle.std.proofs.Common.{◌≡◌, sym, ◌∙◌, ap, subst, arith, pos, ℤ, Some, None}
+use Rattle.std.proofs.Common.{◌<◌, Bool, true, false, List, length, ◌≡◌, sym, ◌∙◌, ap, subst, arith, pos, ℤ, Some, None}
 use Rattle.std.specs.Prelude.{◌+ℤ◌, ◌<ℤ◌, ◌≤ℤ◌, MatchBool}
 use Rattle.std.specs.Ordering.{is_some_and, is_lt}
 use Rattle.std.proofs.lemmas.Int.{ints}
 use Rattle.std.proofs.lemmas.Option.{same_Some}
 use Rattle.pf_graph.specs.Internal.Spanning.SpanningSteps.{values_sum}
 use Rattle.pf_graph.proofs.Spanning.SumLemmas.{Rises-sorted, Rises-taken, sum_taken, below_zero, past_range}
+use Rattle.std.proofs.lemmas.List.{length_push}
+use Rattle.pf_graph.specs.Internal.Spanning.SpanningSteps.{IsTaken}
 use Rattle.pf_graph.proofs.undirected.exact_sum.exact_sum.Goals as goal
+
+-- fewer weights are left
+taken_fewer : {C : Type 0} (last : Bool) (w : C) (rest ws : List C) → IsTaken last w rest ws → length rest < length ws
+taken_fewer true w rest ws e = omega (arith, ap length e, length_push rest w)
+taken_fewer false w rest ws e = omega (arith, ap length e)
 
 pub weights-init : goal.weights-init
 weights-init g c =
@@ -44,3 +51,6 @@ returns g c =
     let value = g.C.Number.value in
     let whole = subst (λ xs. (value c.weights.sum +ℤ values_sum value xs) ≡ values_sum value c.args.weights.now) c.in_default.ensures c.weights.invariant.whole in
     omega (arith, ints, whole)
+
+pub weights-smaller : goal.weights-smaller
+weights-smaller g c = taken_fewer c.lt.result c.in-Some.taken.0 c.in-Some.taken.1.now c.weights.left.now c.in-Some.ensures

@@ -29,3 +29,15 @@ returns-in_err-number_into g c = record {
   weighed = if_refused _ c.from_residual-in_err-number_into.result _ c.from_residual-in_err-number_into.ensures.1;
   refused = refused_as _ c.from_residual-in_err-number_into.result _ c.from_residual-in_err-number_into.ensures.1 c.in_err-number_into.ensures.refused;
 }
+
+pub returns-in_err-narrowed : goal.returns-in_err-narrowed
+returns-in_err-narrowed g c = record {
+  few = if_refused _ c.from_residual-in_err-narrowed.result _ c.from_residual-in_err-narrowed.ensures.1;
+  numbered = if_refused _ c.from_residual-in_err-narrowed.result _ c.from_residual-in_err-narrowed.ensures.1;
+  in_order = if_refused _ c.from_residual-in_err-narrowed.result _ c.from_residual-in_err-narrowed.ensures.1;
+  weighed = if_refused _ c.from_residual-in_err-narrowed.result _ c.from_residual-in_err-narrowed.ensures.1;
+  refused = refused_as _ c.from_residual-in_err-narrowed.result _ c.from_residual-in_err-narrowed.ensures.1 c.in_err-narrowed.ensures.refused;
+}
+
+pub number_into-requires-clause-weighs : goal.number_into-requires-clause-weighs
+number_into-requires-clause-weighs g c = c.requires.weighs

@@ -5,7 +5,7 @@ use Rattle.std.proofs.lemmas.List.Elements.{All-nil, All-push, All-same}
 use Rattle.pf_graph.specs.Internal.NumberedEdges.{IsNumbered, IsWeighed}
 use Rattle.pf_graph.proofs.NumberLemmas.{IsNumbered-none, IsNumbered-more}
 use Rattle.std.proofs.lemmas.Result.{IfOk-from_err}
-use Rattle.pf_base.proofs.Outcomes.{refused_by}
+use Rattle.pf_base.proofs.Outcomes.{on_refused, refused_as, refused_by}
 use Rattle.pf_graph.proofs.undirected.numbered.number_into.Goals as goal
 
 pub loop-edge-init : goal.loop-edge-init
@@ -78,3 +78,28 @@ returns-in_err-push g c = record {
 
 pub loop-edge-smaller : goal.loop-edge-smaller
 loop-edge-smaller g c = omega (arith, c.loop-edge-test.true)
+
+pub bounds-edges-edge-index : goal.bounds-edges-edge-index
+bounds-edges-edge-index g c = c.loop-edge-test.true
+
+pub narrowed-requires : goal.narrowed-requires
+narrowed-requires g c = tt
+
+pub narrowed-requires-in-loop-edge : goal.narrowed-requires-in-loop-edge
+narrowed-requires-in-loop-edge g c = tt
+
+pub returns-in_err-one : goal.returns-in_err-one
+returns-in_err-one g c = record {
+  numbered = on_refused _ c.from_residual-in_err-one.result _ c.from_residual-in_err-one.ensures.1;
+  in_order = on_refused _ c.from_residual-in_err-one.result _ c.from_residual-in_err-one.ensures.1;
+  weighed = on_refused _ c.from_residual-in_err-one.result _ c.from_residual-in_err-one.ensures.1;
+  refused = refused_as _ c.from_residual-in_err-one.result _ c.from_residual-in_err-one.ensures.1 c.in_err-one.ensures.refused;
+}
+
+pub returns-in_err-other : goal.returns-in_err-other
+returns-in_err-other g c = record {
+  numbered = on_refused _ c.from_residual-in_err-other.result _ c.from_residual-in_err-other.ensures.1;
+  in_order = on_refused _ c.from_residual-in_err-other.result _ c.from_residual-in_err-other.ensures.1;
+  weighed = on_refused _ c.from_residual-in_err-other.result _ c.from_residual-in_err-other.ensures.1;
+  refused = refused_as _ c.from_residual-in_err-other.result _ c.from_residual-in_err-other.ensures.1 c.in_err-other.ensures.refused;
+}

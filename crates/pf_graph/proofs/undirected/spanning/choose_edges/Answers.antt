@@ -1,4 +1,4 @@
-use Rattle.std.proofs.Common.{ℕ, ◌≡◌, arith, nat_eq, sym, ◌∙◌, subst, length, ◌∷◌, ◌++◌, [], vec_len}
+use Rattle.std.proofs.Common.{◌≤◌, ℕ, ◌≡◌, arith, nat_eq, sym, ◌∙◌, subst, length, ◌∷◌, ◌++◌, [], vec_len}
 use Rattle.std.specs.Prelude.{Contains, map}
 use Rattle.std.proofs.lemmas.List.{map-id}
 use Rattle.std.proofs.lemmas.Iterator.Adapters.{YieldsList-from_vec}
@@ -108,3 +108,15 @@ returns-in_err-chosen g c = record {
   sorted = IfOk-from_err _ _ c.from_residual.ensures.0;
   refused = refused_by _ c.from_residual.result c.from_residual.ensures.1;
 }
+
+pub unite-requires-clause-fit : goal.unite-requires-clause-fit
+unite-requires-clause-fit g c = subst (λ (n : ℕ). n ≤ g.V.VertexNumber.bound) (sym c.edges.auto.parents) c.requires.fit
+
+pub edges-smaller : goal.edges-smaller
+edges-smaller g c = (c.in-Some.ensures.goes.on c.edges.iterator.1).2
+
+pub edges-smaller-in-Continue-branch-2 : goal.edges-smaller-in-Continue-branch-2
+edges-smaller-in-Continue-branch-2 g c = (c.in-Some.ensures.goes.on c.edges.iterator.1).2
+
+pub returns-clause-refused : goal.returns-clause-refused
+returns-clause-refused g c = tt
