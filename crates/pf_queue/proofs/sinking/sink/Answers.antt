@@ -108,3 +108,36 @@ pub returns-else-first-near-clause-rearranged : goal.returns-else-first-near-cla
 returns-else-first-near-clause-rearranged g c =
     let p = c.marks.invariant in
     rearranged_wide g.C.Number.value c.args.near (length c.args.entries.now - 1 + 1) c.args.first (length c.args.entries.now) c.args.entries.now c.marks.entries c.requires.arranged.front (omega (arith, c.requires.some)) p.rearranged
+
+pub overflow_sub-hole : goal.overflow_sub-hole
+overflow_sub-hole g c = omega (arith, c.requires.some)
+
+pub bounds-entries-hole : goal.bounds-entries-hole
+bounds-entries-hole g c = omega (arith, c.requires.some)
+
+pub bounds-entries-hole-2 : goal.bounds-entries-hole-2
+bounds-entries-hole-2 g c = omega (arith, c.requires.some)
+
+pub bounds-marks-index : goal.bounds-marks-index
+bounds-marks-index g c = c.marks-test.true
+
+pub swap-requires-clause-b_in_bounds : goal.swap-requires-clause-b_in_bounds
+swap-requires-clause-b_in_bounds g c = let p = c.marks.invariant in omega (arith, p.ends, p.len)
+
+pub bounds-marks-index-in-marks : goal.bounds-marks-index-in-marks
+bounds-marks-index-in-marks g c = c.marks-test.true
+
+pub overflow_add-index : goal.overflow_add-index
+overflow_add-index g c = search (c.marks-test.true, rules)
+
+pub marks-smaller : goal.marks-smaller
+marks-smaller g c = search rules
+
+pub overflow_sub-last : goal.overflow_sub-last
+overflow_sub-last g c = omega (arith, c.if-first-near.true)
+
+pub bounds-entries-near : goal.bounds-entries-near
+bounds-entries-near g c = omega (arith, c.marks.invariant.len, c.requires.arranged.inside, c.if-first-near.true)
+
+pub bounds-entries-near-then-first-near : goal.bounds-entries-near-then-first-near
+bounds-entries-near-then-first-near g c = omega (arith, c.marks.invariant.len, c.requires.arranged.inside, c.if-first-near.true)
