@@ -1,4 +1,4 @@
-use Rattle.std.proofs.Common.{◌∙◌, ap, sym, subst, arith, rules, get_or, length, ◌-◌, ◌+◌}
+use Rattle.std.proofs.Common.{◌∙◌, ap, sym, subst, arith, rules, get_or, length, ◌-◌, ◌+◌, ◌*◌, ◌^◌, ◌<◌, ℕ, Fits, w64}
 use Rattle.std.specs.Prelude.{slice_set}
 use Rattle.std.specs.Ordering.{is_some_and, is_lt}
 use Rattle.std.proofs.lemmas.Int.{ints}
@@ -141,3 +141,19 @@ bounds-entries-near g c = omega (arith, c.marks.invariant.len, c.requires.arrang
 
 pub bounds-entries-near-then-first-near : goal.bounds-entries-near-then-first-near
 bounds-entries-near-then-first-near g c = omega (arith, c.marks.invariant.len, c.requires.arranged.inside, c.if-first-near.true)
+
+-- the offset of an element fits where the whole does
+offset_fits : (i n k : ℕ) → i < n → n * k < 2 ^ 63 → Fits w64 (i * k)
+offset_fits i n k l m = search rules
+
+pub offset_bounds-entries-hole : goal.offset_bounds-entries-hole
+offset_bounds-entries-hole g c = offset_fits (length c.args.entries.now - 1) (length c.args.entries.now) _ (omega (arith, c.requires.some)) c.well_formed.0.1
+
+pub offset_bounds-marks-index : goal.offset_bounds-marks-index
+offset_bounds-marks-index g c = offset_fits c.marks.index (length c.args.marks.now) _ (omega (arith, c.marks-test.true, c.marks.auto.marks)) c.well_formed.1.0.1
+
+pub offset_bounds-marks-index-in-marks : goal.offset_bounds-marks-index-in-marks
+offset_bounds-marks-index-in-marks g c = offset_fits c.marks.index (length c.args.marks.now) _ (omega (arith, c.marks-test.true, c.marks.auto.marks)) c.well_formed.1.0.1
+
+pub offset_bounds-entries-near : goal.offset_bounds-entries-near
+offset_bounds-entries-near g c = offset_fits (c.args.near - 1) (length c.args.entries.now) _ (omega (arith, c.requires.some, c.requires.arranged.inside, c.if-first-near.true)) c.well_formed.0.1
