@@ -1,5 +1,7 @@
 -- Ticks and potential, from phase to phase.
-use Rattle.std.proofs.Common.{◌≡◌, ◌∙◌, sym, ap, subst, ◌≤◌, ◌+◌, ◌*◌, ℕ, arith}
+use Rattle.std.proofs.Common.{◌≡◌, ◌∙◌, sym, ap, subst, ◌≤◌, ◌+◌, ◌*◌, ℕ, ℤ, arith}
+use Rattle.std.specs.Prelude.{◌≤ℤ◌}
+use Rattle.std.proofs.lemmas.Int.{ints}
 use Rattle.pf_residual.specs.Flows.{PairTable, pair_count}
 use Rattle.pf_residual.specs.Networks.{Network, capacity, path_bound, KeepsCapacities}
 use Rattle.pf_residual.specs.Internal.AugmentingPaths.{IsLabelling, potential}
@@ -54,6 +56,13 @@ ticks_now {N} {O} first {d} w start now so_far =
 pub labelling_back : {N M : Network} → KeepsCapacities N M → {residual : PairTable} {d : ℕ → ℕ} → IsLabelling M.vertices M.source residual d → IsLabelling N.vertices N.source residual d
 labelling_back {N} {M} w {residual} {d} l = subst (λ n. IsLabelling n N.source residual d) w.shape.vertices (subst (λ s. IsLabelling M.vertices s residual d) w.shape.source l)
 
+-- a total that does not fall
+pub no_less_itself : (a : ℤ) → a ≤ℤ a
+no_less_itself a = omega (arith, ints)
+
+pub no_less_then : {a b c : ℤ} → a ≤ℤ b → b ≤ℤ c → a ≤ℤ c
+no_less_then l m = omega (arith, ints, l, m)
+
 -- flow that was added along paths of the levels d from N to O, and from O to M
 module _ {N O M : Network} {d : ℕ → ℕ} {start now after : ℕ} (first : IsAugmented d N O start now) (next : IsAugmented d O M now after) where
   pub augmented_more : IsAugmented d N M start after
@@ -66,6 +75,7 @@ module _ {N O M : Network} {d : ℕ → ℕ} {start now after : ℕ} (first : Is
       let two = next.progress in
       record {
         kept = capacities_more first.kept next.kept;
+        total = no_less_then first.total next.total;
         labelling = labelling_back first.kept next.labelling;
         progress = omega (arith, one, two);
         bound = omega (arith, so_far, bound, e, f);

@@ -1,6 +1,6 @@
 //! Greatest flows along shortest augmenting paths.
 
-ghost use Rattle.std.specs.Prelude.{◌≡◌, ◌≢◌, ◌≤◌, ◌+◌, OnOk, IfOk, IfErr};
+ghost use Rattle.std.specs.Prelude.{◌≡◌, ◌≢◌, ◌≤◌, ◌≤ℤ◌, ◌+◌, OnOk, IfOk, IfErr};
 ghost use Rattle.pf_base.specs.declared.error.PathError.TheVariants.{OutOfMemory};
 ghost use Rattle.pf_residual.specs.Networks.{Network, path_bound, KeepsCapacities, IsNetwork, HasCutOfTotal};
 ghost use Rattle.pf_residual.specs.Listings.{IsFlowAnswer};
@@ -31,6 +31,7 @@ where
     requires apart { (S.network store.old).source ≢ (S.network store.old).sink }
     ensures network { IsNetwork C.fits (S.network store.new) }
     ensures kept { KeepsCapacities (S.network store.old) (S.network store.new) }
+    ensures total { (S.network store.old).total ≤ℤ (S.network store.new).total }
     ensures cut_off { OnOk result (IsSinkCutOff (S.network store.new) found.new.levels.items found.new.parents.items) }
     ensures refused { IfErr result (λ e. e ≡ OutOfMemory) }
     ensures ticked { tally.old ≤ tally.new }
@@ -90,6 +91,7 @@ where
     requires apart { (S.network store.old).source ≢ (S.network store.old).sink }
     ensures network { IsNetwork C.fits (S.network store.new) }
     ensures kept { KeepsCapacities (S.network store.old) (S.network store.new) }
+    ensures total { (S.network store.old).total ≤ℤ (S.network store.new).total }
     ensures cut { OnOk result (HasCutOfTotal (S.network store.new)) }
     ensures answer { IfOk result (IsFlowAnswer C.value (S.network store.new)) }
     ensures refused { IfErr result (λ e. e ≡ OutOfMemory) }
@@ -113,6 +115,7 @@ where
     requires { IsNetwork C.fits (S.network store.old) }
     ensures network { IsNetwork C.fits (S.network store.new) }
     ensures kept { KeepsCapacities (S.network store.old) (S.network store.new) }
+    ensures total { (S.network store.old).total ≤ℤ (S.network store.new).total }
     ensures cut { OnOk result (HasCutOfTotal (S.network store.new)) }
     ensures answer { IfOk result (IsFlowAnswer C.value (S.network store.new)) }
     ensures refused { IfErr result (λ e. e ≡ OutOfMemory) }

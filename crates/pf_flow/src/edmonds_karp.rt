@@ -195,6 +195,7 @@ pub trait EdmondsKarp<C: SignedCost>: FlowStore<C> {
         requires { IsNetwork C.fits (Self.network self.old) }
         ensures network { IsNetwork C.fits (Self.network self.new) }
         ensures kept { KeepsCapacities (Self.network self.old) (Self.network self.new) }
+        ensures total { (Self.network self.old).total ≤ℤ (Self.network self.new).total }
         ensures cut { OnOk result (HasCutOfTotal (Self.network self.new)) }
         ensures answer { IfOk result (IsFlowAnswer C.value (Self.network self.new)) }
         ensures refused { IfErr result (λ e. e ≡ OutOfMemory) }
@@ -218,11 +219,13 @@ pub trait EdmondsKarp<C: SignedCost>: FlowStore<C> {
     ///
     /// # Errors
     ///
-    /// The only error is `OutOfMemory`; then all capacities are as before, and the flow is feasible.
+    /// The only error is `OutOfMemory`; then all capacities are as before, the flow is feasible, and its
+    /// total is no less than before.
     fn augment<A: Allocator + Copy>(&mut self, alloc: A) -> Result<EKFlows<usize, C, A>, PathError>
         requires { IsNetwork C.fits (Self.network self.old) }
         ensures network { IsNetwork C.fits (Self.network self.new) }
         ensures kept { KeepsCapacities (Self.network self.old) (Self.network self.new) }
+        ensures total { (Self.network self.old).total ≤ℤ (Self.network self.new).total }
         ensures cut { OnOk result (HasCutOfTotal (Self.network self.new)) }
         ensures answer { IfOk result (IsFlowAnswer C.value (Self.network self.new)) }
         ensures refused { IfErr result (λ e. e ≡ OutOfMemory) }

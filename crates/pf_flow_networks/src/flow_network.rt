@@ -93,10 +93,12 @@ impl<N: Eq + Hash + Copy, C: SignedCost, S: EdmondsKarp<C>> FlowNetwork<N, C, S>
     ///
     /// # Errors
     ///
-    /// The only error is `OutOfMemory`; then all capacities are as before, and a second call goes on.
+    /// The only error is `OutOfMemory`; then all capacities are as before, the total is no less than
+    /// before, and a second call goes on.
     pub fn augment(&mut self, alloc: S::Alloc) -> Result<EKFlows<N, C, S::Alloc>, PathError>
         ensures network { IsNetwork C.fits (S.network self.new.store) }
         ensures kept { KeepsNamedCapacities (named self.old.names.keys (S.network self.old.store)) (named self.new.names.keys (S.network self.new.store)) }
+        ensures total { (S.network self.old.store).total ≤ℤ (S.network self.new.store).total }
         ensures cut { OnOk result (HasCutOfTotal (S.network self.new.store)) }
         ensures answer { IfOk result (IsNamedFlowAnswer C.value (named self.new.names.keys (S.network self.new.store))) }
         ensures refused { IfErr result (λ e. e ≡ OutOfMemory) }

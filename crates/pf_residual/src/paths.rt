@@ -41,6 +41,7 @@ where
     requires places_len { length places.now ≡ length path.now }
     ensures network { IsNetwork C.fits (S.network store.new) }
     ensures kept { KeepsCapacities (S.network store.old) (S.network store.new) }
+    ensures total { (S.network store.old).total ≤ℤ (S.network store.new).total }
     ensures levels { KeepsLabelling path.now (S.network store.old) (S.network store.new) }
     ensures rises { RaisesPotential path.now (S.network store.old) (S.network store.new) }
 {

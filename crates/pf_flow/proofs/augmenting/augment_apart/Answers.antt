@@ -20,6 +20,7 @@ pub returns : goal.returns
 returns g c = record {
   network = c.run_phases.ensures.network;
   kept = c.run_phases.ensures.kept;
+  total = c.run_phases.ensures.total;
   cut =
       let law = g.met.S.FlowStore.network_law c.run_phases.new.store in
       let e = c.in_ok-run_phases.ensures.cut_off in
@@ -35,6 +36,7 @@ pub returns-in_err-run_phases : goal.returns-in_err-run_phases
 returns-in_err-run_phases g c = record {
   network = c.run_phases.ensures.network;
   kept = c.run_phases.ensures.kept;
+  total = c.run_phases.ensures.total;
   cut = IfOk-from_err _ _ c.from_residual.ensures.0;
   answer = IfOk-from_err _ _ c.from_residual.ensures.0;
   refused = refused_as _ c.from_residual.result _ c.from_residual.ensures.1 c.in_err-run_phases.ensures.refused;

@@ -4,6 +4,7 @@ use Rattle.pf_residual.specs.Listings.{ListsFlows}
 use Rattle.pf_residual.proofs.AgreeLemmas.{capacities_kept}
 use Rattle.pf_residual.proofs.ChangeListings.{lists_none}
 use Rattle.pf_residual.proofs.NetworkLemmas.{idle_total}
+use Rattle.pf_flow.proofs.PhaseLemmas.{no_less_itself}
 use Rattle.pf_flow.proofs.augmenting.augment_flow.Goals as goal
 
 pub returns-then-source-sink-clause-network : goal.returns-then-source-sink-clause-network
@@ -11,6 +12,9 @@ returns-then-source-sink-clause-network g c = c.requires
 
 pub returns-then-source-sink-clause-kept : goal.returns-then-source-sink-clause-kept
 returns-then-source-sink-clause-kept g c = capacities_kept (g.S.FlowStore.network c.args.store.now)
+
+pub returns-then-source-sink-clause-total : goal.returns-then-source-sink-clause-total
+returns-then-source-sink-clause-total g c = no_less_itself _
 
 pub returns-then-source-sink-clause-cut : goal.returns-then-source-sink-clause-cut
 returns-then-source-sink-clause-cut g c = λ apart. absurd (apart (sym c.source.ensures ∙ c.if-source-sink.true ∙ c.sink.ensures))
@@ -43,6 +47,7 @@ pub returns : goal.returns
 returns g c = record {
   network = c.augment_apart.ensures.network;
   kept = c.augment_apart.ensures.kept;
+  total = c.augment_apart.ensures.total;
   cut = c.augment_apart.ensures.cut;
   answer = c.augment_apart.ensures.answer;
   refused = c.augment_apart.ensures.refused;

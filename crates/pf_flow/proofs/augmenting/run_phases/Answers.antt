@@ -5,7 +5,7 @@ use Rattle.std.proofs.lemmas.Result.{IfOk-from_err}
 use Rattle.pf_base.proofs.ListLemmas.{resized}
 use Rattle.pf_residual.proofs.AgreeLemmas.{capacities_kept, capacities_more}
 use Rattle.pf_base.proofs.Outcomes.{refused_as, refused_by}
-use Rattle.pf_flow.proofs.PhaseLemmas.{ticks_top, ticks_anew, ticks_now}
+use Rattle.pf_flow.proofs.PhaseLemmas.{ticks_top, ticks_anew, ticks_now, no_less_then, no_less_itself}
 use Rattle.pf_flow.proofs.augmenting.run_phases.Goals as goal
 
 -- what is written through a slice keeps its length
@@ -53,6 +53,7 @@ phases-preserved g c =
     record {
       network = c.augment_phase.ensures.network;
       kept = capacities_more i.kept p.kept;
+      total = no_less_then i.total p.total;
       found = found;
       path_len = kept_len c.phases.path.len (g.S.FlowStore.network c.augment_phase.new.store).vertices c.augment_phase.new.path c.phases.path.items (omega (arith, auto, len, wide, shape)) (omega (arith, wide, shape)) (omega (arith, wide, shape, owned));
       places_len = kept_len c.phases.places.len (g.S.FlowStore.network c.augment_phase.new.store).vertices c.augment_phase.new.places c.phases.places.items (omega (arith, places_auto, places_len, places_wide, shape)) (omega (arith, places_wide, shape)) (omega (arith, places_wide, shape, places_owned));
@@ -64,6 +65,7 @@ pub phases-init : goal.phases-init
 phases-init g c = record {
   network = c.requires.network;
   kept = capacities_kept (g.S.FlowStore.network c.args.store.now);
+  total = no_less_itself _;
   found = c.in_ok-find.ensures.found;
   path_len = ap length (resized c.size-size.result c.new-path.result.items c.resize.new.self.items _ 0 c.new-path.ensures.items c.new-path.ensures.len c.in_ok-resize.ensures.items) ∙ length-replicate c.size-size.result 0 ∙ c.size-size.ensures;
   places_len = ap length (resized c.size-size.result c.new-places.result.items c.resize-2.new.self.items _ 0 c.new-places.ensures.items c.new-places.ensures.len c.in_ok-resize-2.ensures.items) ∙ length-replicate c.size-size.result 0 ∙ c.size-size.ensures;
@@ -81,6 +83,7 @@ pub returns-in_err-find : goal.returns-in_err-find
 returns-in_err-find g c = record {
   network = c.requires.network;
   kept = capacities_kept (g.S.FlowStore.network c.args.store.now);
+  total = no_less_itself _;
   cut_off = IfOk-from_err _ _ c.from_residual-in_err-find.ensures.0;
   refused = refused_as _ c.from_residual-in_err-find.result _ c.from_residual-in_err-find.ensures.1 c.in_err-find.ensures.refused;
   ticked = itself _;
@@ -91,6 +94,7 @@ pub returns-in_err-resize : goal.returns-in_err-resize
 returns-in_err-resize g c = record {
   network = c.requires.network;
   kept = capacities_kept (g.S.FlowStore.network c.args.store.now);
+  total = no_less_itself _;
   cut_off = IfOk-from_err _ _ c.from_residual.ensures.0;
   refused = refused_by _ c.from_residual.result c.from_residual.ensures.1;
   ticked = itself _;
@@ -101,6 +105,7 @@ pub returns-in_err-resize-2 : goal.returns-in_err-resize-2
 returns-in_err-resize-2 g c = record {
   network = c.requires.network;
   kept = capacities_kept (g.S.FlowStore.network c.args.store.now);
+  total = no_less_itself _;
   cut_off = IfOk-from_err _ _ c.from_residual-in_err-resize-2.ensures.0;
   refused = refused_by _ c.from_residual-in_err-resize-2.result c.from_residual-in_err-resize-2.ensures.1;
   ticked = itself _;
@@ -128,6 +133,7 @@ pub returns : goal.returns
 returns g c = record {
   network = c.phases.invariant.network;
   kept = c.phases.invariant.kept;
+  total = c.phases.invariant.total;
   cut_off =
       let i = c.phases.invariant in
       let M = g.S.FlowStore.network c.phases.store in
@@ -152,6 +158,7 @@ pub returns-in_err-find-2 : goal.returns-in_err-find-2
 returns-in_err-find-2 g c = record {
   network = c.augment_phase.ensures.network;
   kept = capacities_more c.phases.invariant.kept c.augment_phase.ensures.augmented.kept;
+  total = no_less_then c.phases.invariant.total c.augment_phase.ensures.augmented.total;
   cut_off = IfOk-from_err _ _ c.from_residual-in_err-find-2.ensures.0;
   refused = refused_as _ c.from_residual-in_err-find-2.result _ c.from_residual-in_err-find-2.ensures.1 c.in_err-find-2.ensures.refused;
   ticked = after _ _ _ c.phases.invariant.ticked c.augment_phase.ensures.augmented.progress;

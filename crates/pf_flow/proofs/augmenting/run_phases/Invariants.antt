@@ -1,5 +1,5 @@
 use Rattle.std.proofs.Common.{◌≡◌, ◌≤◌, ◌+◌, ◌-◌, length}
-use Rattle.std.specs.Prelude.{slice_index}
+use Rattle.std.specs.Prelude.{◌≤ℤ◌, slice_index}
 use Rattle.pf_residual.specs.Networks.{path_bound, IsNetwork, KeepsCapacities}
 use Rattle.pf_residual.specs.Internal.AugmentingPaths.{potential_in}
 use Rattle.pf_flow.specs.Internal.Phases.{HoldsLevels}
@@ -10,6 +10,7 @@ abbrev pub invariant-phases : goal.invariant-phases
 invariant-phases g l = record {
   network : IsNetwork g.C.Number.fits (g.S.FlowStore.network l.store);
   kept : KeepsCapacities (g.S.FlowStore.network l.fn.store) (g.S.FlowStore.network l.store);
+  total : (g.S.FlowStore.network l.fn.store).total ≤ℤ (g.S.FlowStore.network l.store).total;
   found : HoldsLevels (g.S.FlowStore.network l.store) l.found;
   path_len : length l.path.items ≡ (g.S.FlowStore.network l.store).vertices;
   places_len : length l.places.items ≡ (g.S.FlowStore.network l.store).vertices;

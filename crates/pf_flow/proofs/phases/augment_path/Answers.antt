@@ -27,6 +27,7 @@ returns-clause-augmented g c =
     let tick = c.tick.ensures in
     record {
       kept = c.add_along.ensures.kept;
+      total = c.add_along.ensures.total;
       labelling = c.add_along.ensures.levels (slice_index levels) up r.labelling;
       progress = omega (arith, tick);
       bound = omega (arith, rise, tick);

@@ -1,4 +1,4 @@
-use Rattle.std.proofs.Common.{◌∙◌, ap, sym, subst, arith, rules, get_or, length, ◌-◌, ◌+◌}
+use Rattle.std.proofs.Common.{◌∙◌, ap, sym, subst, arith, rules, get_or, length, ◌-◌, ◌+◌, ◌*◌, ◌^◌, ◌<◌, ℕ, Fits, w64}
 use Rattle.std.specs.Prelude.{slice_set}
 use Rattle.std.specs.Ordering.{is_some_and, is_lt}
 use Rattle.std.proofs.lemmas.Int.{ints}
@@ -108,3 +108,52 @@ pub returns-else-first-near-clause-rearranged : goal.returns-else-first-near-cla
 returns-else-first-near-clause-rearranged g c =
     let p = c.marks.invariant in
     rearranged_wide g.C.Number.value c.args.near (length c.args.entries.now - 1 + 1) c.args.first (length c.args.entries.now) c.args.entries.now c.marks.entries c.requires.arranged.front (omega (arith, c.requires.some)) p.rearranged
+
+pub overflow_sub-hole : goal.overflow_sub-hole
+overflow_sub-hole g c = omega (arith, c.requires.some)
+
+pub bounds-entries-hole : goal.bounds-entries-hole
+bounds-entries-hole g c = omega (arith, c.requires.some)
+
+pub bounds-entries-hole-2 : goal.bounds-entries-hole-2
+bounds-entries-hole-2 g c = omega (arith, c.requires.some)
+
+pub bounds-marks-index : goal.bounds-marks-index
+bounds-marks-index g c = c.marks-test.true
+
+pub swap-requires-clause-b_in_bounds : goal.swap-requires-clause-b_in_bounds
+swap-requires-clause-b_in_bounds g c = let p = c.marks.invariant in omega (arith, p.ends, p.len)
+
+pub bounds-marks-index-in-marks : goal.bounds-marks-index-in-marks
+bounds-marks-index-in-marks g c = c.marks-test.true
+
+pub overflow_add-index : goal.overflow_add-index
+overflow_add-index g c = search (c.marks-test.true, rules)
+
+pub marks-smaller : goal.marks-smaller
+marks-smaller g c = search rules
+
+pub overflow_sub-last : goal.overflow_sub-last
+overflow_sub-last g c = omega (arith, c.if-first-near.true)
+
+pub bounds-entries-near : goal.bounds-entries-near
+bounds-entries-near g c = omega (arith, c.marks.invariant.len, c.requires.arranged.inside, c.if-first-near.true)
+
+pub bounds-entries-near-then-first-near : goal.bounds-entries-near-then-first-near
+bounds-entries-near-then-first-near g c = omega (arith, c.marks.invariant.len, c.requires.arranged.inside, c.if-first-near.true)
+
+-- the offset of an element fits where the whole does
+offset_fits : (i n k : ℕ) → i < n → n * k < 2 ^ 63 → Fits w64 (i * k)
+offset_fits i n k l m = search rules
+
+pub offset_bounds-entries-hole : goal.offset_bounds-entries-hole
+offset_bounds-entries-hole g c = offset_fits (length c.args.entries.now - 1) (length c.args.entries.now) _ (omega (arith, c.requires.some)) c.well_formed.0.1
+
+pub offset_bounds-marks-index : goal.offset_bounds-marks-index
+offset_bounds-marks-index g c = offset_fits c.marks.index (length c.args.marks.now) _ (omega (arith, c.marks-test.true, c.marks.auto.marks)) c.well_formed.1.0.1
+
+pub offset_bounds-marks-index-in-marks : goal.offset_bounds-marks-index-in-marks
+offset_bounds-marks-index-in-marks g c = offset_fits c.marks.index (length c.args.marks.now) _ (omega (arith, c.marks-test.true, c.marks.auto.marks)) c.well_formed.1.0.1
+
+pub offset_bounds-entries-near : goal.offset_bounds-entries-near
+offset_bounds-entries-near g c = offset_fits (c.args.near - 1) (length c.args.entries.now) _ (omega (arith, c.requires.some, c.requires.arranged.inside, c.if-first-near.true)) c.well_formed.0.1

@@ -1,5 +1,5 @@
 use Rattle.std.proofs.Common.{◌≡◌, ◌<◌, ◌+◌, ◌-◌, ◌∙◌, inl, inr, true, arith, subst, sym, ℕ, length}
-use Rattle.std.specs.Prelude.{◌<ℤ◌, ◌+ℤ◌, ℤ, pos}
+use Rattle.std.specs.Prelude.{◌<ℤ◌, ◌≤ℤ◌, ◌+ℤ◌, ℤ, pos}
 use Rattle.std.proofs.lemmas.Int.{ints}
 use Rattle.pf_base.proofs.ListLemmas.{bool_dec}
 use Rattle.pf_residual.specs.Networks.{Network, capacity, capacity_sum, with_total, IsNetwork, IsStored}
@@ -167,6 +167,12 @@ returns g c = record {
   levels = λ d h v.
       let N = g.S.FlowStore.network c.args.store.now in
       subst (λ (O : Network). IsLabelling N.vertices N.source O.residual d) (agreed c.set_total_capacity.ensures) (c.loop-place.invariant.levels.labelled d h v);
+  total =
+      let a = low c.requires.path.left c.least_residual-amount.ensures.reached in
+      let t = c.loop-place.invariant.pushed.total in
+      let r = c.total_capacity.ensures in
+      let q = c.plus-total.ensures in
+      subst (λ (O : Network). (g.S.FlowStore.network c.args.store.now).total ≤ℤ O.total) (agreed c.set_total_capacity.ensures) (omega (arith, ints, a, t, r, q));
   kept =
       let p = c.loop-place.invariant.pushed in
       let a = capacities_agrees c.set_total_capacity.ensures in
