@@ -1,4 +1,4 @@
-use Rattle.std.proofs.Common.{◌≡◌, ◌+◌, ◌+ℤ◌, Some, IfSome, ◌∙◌, ◌-◌, ℤ, ap, Option, None}
+use Rattle.std.proofs.Common.{◌≡◌, ◌+ℤ◌, Some, IfSome, ◌∙◌, ℤ, ap, Option, None}
 use Rattle.pf_yen.proofs.led.total_behind.Goals as goal
 
 total : {C : Type 0} (value : C → ℤ) (fits : ℤ → Type 0) (spent rest : Option C) (s x t more : C) (r : Option C) → spent ≡ Some s → rest ≡ Some x → value t ≡ value s +ℤ value x → (elim r as (λ _. Type 0) [ None ↦ ¬ (fits (value t +ℤ value more)) | Some u ↦ fits (value t +ℤ value more) × (value u ≡ value t +ℤ value more) ]) → IfSome r (λ u. (s : C) × (x : C) × (spent ≡ Some s) × (rest ≡ Some x) × (value u ≡ (value s +ℤ value x) +ℤ value more))
@@ -15,7 +15,7 @@ pub returns-in_err-checked_add : goal.returns-in_err-checked_add
 returns-in_err-checked_add g c = rw c.from_residual-in_err-checked_add.ensures tt
 
 pub returns : goal.returns
-returns g c = 
+returns g c =
     let law = g.met.C.CheckedAdd.checked_add_law in
     let sum = c.in_ok-checked_add.field-0 in
     let adds = law c.in_ok-spent.field-0 c.in_ok-rest.field-0 (Some sum) c.in_ok-checked_add.ensures in
