@@ -2,20 +2,42 @@ use Rattle.std.proofs.Common.{◌≡◌, ◌∙◌, ◌++◌, ◌∷◌, List, a
 use Rattle.std.specs.Prelude.{Contains, IsPermutation, ◌⊎◌}
 use Rattle.std.specs.Ordering.{is_some_and, is_lt}
 use Rattle.std.proofs.lemmas.Int.{ints}
-use Rattle.std.proofs.lemmas.List.Sorted.{Contains-permutation, IsPermutation-sym, IsPermutation-trans, IsPermutation-append_right, length_permutation}
+use Rattle.std.proofs.lemmas.List.Sorted.{Contains-permutation, IsPermutation-refl, IsPermutation-sym, IsPermutation-trans, IsPermutation-append_right, length_permutation}
 use Rattle.pf_base.proofs.ListLemmas.{Contains-append_one, Contains-head, Contains-tail, lt_means}
 use Rattle.pf_informed.specs.Internal.Waiting.{Entry}
 use Rattle.pf_informed.proofs.BucketLemmas.{moved_over, taken_first}
 use Rattle.pf_informed.proofs.queue.gather.Goals as goal
 
+pub entries-init : goal.entries-init
+entries-init g c = record {
+  moved = IsPermutation-refl (c.args.bucket.now.items ++ c.args.later.now.items);
+  alike = λ e h. inl h;
+  above = c.requires.above;
+}
+
 pub returns-in_default-clause-moved : goal.returns-in_default-clause-moved
 returns-in_default-clause-moved g c = IsPermutation-trans _ _ _ c.entries.invariant.moved (IsPermutation-append_right c.entries.bucket.items c.entries.later.items c.least.new.self.items c.in_default.ensures.same)
+
+pub returns-in_default-clause-alike : goal.returns-in_default-clause-alike
+returns-in_default-clause-alike g c = c.entries.invariant.alike
+
+pub returns-in_default-clause-above : goal.returns-in_default-clause-above
+returns-in_default-clause-above g c = λ e h. c.entries.invariant.above e (Contains-permutation c.least.new.self.items c.entries.later.items e (IsPermutation-sym _ _ c.in_default.ensures.same) h)
 
 pub returns-then-lt-clause-moved : goal.returns-then-lt-clause-moved
 returns-then-lt-clause-moved g c = IsPermutation-trans _ _ _ c.entries.invariant.moved (IsPermutation-append_right c.entries.bucket.items c.entries.later.items c.least.new.self.items c.in-Some.ensures.same)
 
+pub returns-then-lt-clause-alike : goal.returns-then-lt-clause-alike
+returns-then-lt-clause-alike g c = c.entries.invariant.alike
+
 pub returns-then-lt-clause-above : goal.returns-then-lt-clause-above
 returns-then-lt-clause-above g c = λ e h. c.entries.invariant.above e (Contains-permutation c.least.new.self.items c.entries.later.items e (IsPermutation-sym _ _ c.in-Some.ensures.same) h)
+
+pub take_first-requires : goal.take_first-requires
+take_first-requires g c = (c.in-Some.entry, c.in-Some.ensures.front)
+
+pub push_reserved-requires : goal.push_reserved-requires
+push_reserved-requires g c = omega (arith, c.entries-test.true, c.len.ensures, c.capacity.ensures)
 
 pub entries-smaller : goal.entries-smaller
 entries-smaller g c =
@@ -46,3 +68,12 @@ entries-preserved g c =
       ];
       above = λ f h. i.above f (before f (Contains-tail rest entry f h));
     }
+
+pub returns-clause-moved : goal.returns-clause-moved
+returns-clause-moved g c = c.entries.invariant.moved
+
+pub returns-clause-alike : goal.returns-clause-alike
+returns-clause-alike g c = c.entries.invariant.alike
+
+pub returns-clause-above : goal.returns-clause-above
+returns-clause-above g c = c.entries.invariant.above

@@ -1,4 +1,4 @@
-use Rattle.std.proofs.Common.{◌≡◌, refl, sym, ap, subst, Err, length}
+use Rattle.std.proofs.Common.{◌≡◌, refl, sym, ap, subst, Err, length, ◌∙◌}
 use Rattle.pf_base.specs.declared.error.PathError.TheVariants.{CostOverflow}
 use Rattle.pf_core.specs.Steps.{NumberedOverflows}
 use Rattle.pf_yen.specs.Internal.Adjacency.{AdjacencyLists, is_goal}
@@ -76,3 +76,21 @@ returns-in-None-clause-overflow g c = λ e. absurd (ok_is_no_error _ _ _ refl e)
 
 pub returns-in-None-clause-parts : goal.returns-in-None-clause-parts
 returns-in-None-clause-parts g c = tt
+
+pub cheapest_path-requires-clause-inside : goal.cheapest_path-requires-clause-inside
+cheapest_path-requires-clause-inside g c = c.requires.some
+
+pub cheapest_path-requires-clause-begins : goal.cheapest_path-requires-clause-begins
+cheapest_path-requires-clause-begins g c = (0, (refl, c.requires.some))
+
+pub cheapest_path-requires-clause-graph : goal.cheapest_path-requires-clause-graph
+cheapest_path-requires-clause-graph g c = let s = c.args.filtered.now in let here : FilteredLists g.row.C.Denot = record { adjacency = s.adjacency.now; onward = s.onward.items; spur = s.spur; banned = s.banned } in (here, (refl, c.requires.whole.inside, c.requires.wide))
+
+pub returns-in-None-clause-banned : goal.returns-in-None-clause-banned
+returns-in-None-clause-banned g c = c.take-banned.ensures.nothing
+
+pub returns-clause-banned : goal.returns-clause-banned
+returns-clause-banned g c = c.take-banned.ensures.nothing
+
+pub returns-clause-parts : goal.returns-clause-parts
+returns-clause-parts g c = let s = c.args.filtered.now in let here : FilteredLists g.row.C.Denot = record { adjacency = s.adjacency.now; onward = s.onward.items; spur = s.spur; banned = s.banned } in (refl, c.take-banned.ensures.taken ∙ sym (ap (λ (h : FilteredLists g.row.C.Denot). h.banned) (c.in_ok-answer.ensures.graph here (refl, c.requires.whole.inside, c.requires.wide)).0))

@@ -1,4 +1,4 @@
-use Rattle.std.proofs.Common.{◌∙◌, refl, sym, ap, subst, ℕ, List, true≢false}
+use Rattle.std.proofs.Common.{◌∙◌, refl, sym, ap, subst, ℕ, List, true≢false, arith}
 use Rattle.std.specs.Prelude.{◌≤ℤ◌}
 use Rattle.std.specs.Ordering.{is_some_and, is_lt}
 use Rattle.std.proofs.lemmas.Result.{IfOk-from_err}
@@ -57,3 +57,18 @@ returns-in_err-push-2 g c = record {
 
 pub returns-in_default : goal.returns-in_default
 returns-in_default g c = record { goal = λ t. absurd (true≢false (sym t)); refused = tt }
+
+pub is_goal-requires : goal.is_goal-requires
+is_goal-requires g c = c.steps.invariant.inside
+
+pub step_on-requires-clause-whole : goal.step_on-requires-clause-whole
+step_on-requires-clause-whole g c = c.requires.whole
+
+pub step_on-requires-clause-wide : goal.step_on-requires-clause-wide
+step_on-requires-clause-wide g c = c.requires.wide
+
+pub step_on-requires-clause-inside : goal.step_on-requires-clause-inside
+step_on-requires-clause-inside g c = c.steps.invariant.inside
+
+pub steps-smaller : goal.steps-smaller
+steps-smaller g c = omega (arith, c.in_ok-push-2.ensures.len, c.push-in-steps.new.self.ok, c.push-in-steps.new.self.small, c.steps.path.ok)

@@ -1,4 +1,4 @@
-use Rattle.std.proofs.Common.{◌≡◌, ◌∙◌, ap, subst, sym, take, drop, ◌+◌, ◌++◌, [], ◌∷◌, ℕ, ◌<◌, List}
+use Rattle.std.proofs.Common.{◌≡◌, ◌∙◌, ap, subst, sym, take, drop, ◌+◌, ◌++◌, [], ◌∷◌, ℕ, ◌<◌, List, rules}
 use Rattle.std.proofs.lemmas.Result.{IfOk-from_err}
 use Rattle.pf_base.proofs.Outcomes.{refused_as}
 use Rattle.pf_yen.specs.Internal.Splits.{IsCheapestAlong}
@@ -80,3 +80,15 @@ go_to_goal-requires-clause-whole g c = c.requires.whole
 
 pub go_to_goal-requires-clause-wide : goal.go_to_goal-requires-clause-wide
 go_to_goal-requires-clause-wide g c = c.requires.wide
+
+pub overflow_add-begin : goal.overflow_add-begin
+overflow_add-begin g c = search (c.requires.inside, rules)
+
+pub slice_bounds-begin-end : goal.slice_bounds-begin-end
+slice_bounds-begin-end g c = search (c.requires.inside, rules)
+
+pub returns-in_err-path-clause-named : goal.returns-in_err-path-clause-named
+returns-in_err-path-clause-named g c = IfOk-from_err _ _ c.from_residual-in_err-path.ensures.0
+
+pub returns-in_err-path-clause-refused : goal.returns-in_err-path-clause-refused
+returns-in_err-path-clause-refused g c = refused_as _ c.from_residual-in_err-path.result c.in_err-path.field-0.0 c.from_residual-in_err-path.ensures.1 c.in_err-path.ensures.refused

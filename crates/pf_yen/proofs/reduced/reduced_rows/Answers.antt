@@ -1,4 +1,4 @@
-use Rattle.std.proofs.Common.{◌≡◌, ◌<◌, ◌∙◌, Some, arith, ap, length, sym, true, true≢false}
+use Rattle.std.proofs.Common.{◌≡◌, ◌<◌, ◌∙◌, Some, arith, ap, length, sym, true, true≢false, refl}
 use Rattle.std.specs.Prelude.{pos, slice_get}
 use Rattle.pf_base.proofs.ListLemmas.{at_place}
 use Rattle.pf_yen.specs.Internal.Adjacency.{is_goal}
@@ -51,3 +51,30 @@ returns-in_err-add g c = record {
   reduced = IfOk-from_err _ _ c.from_residual-in_err-add.ensures.0;
   refused = refused_as _ c.from_residual-in_err-add.result c.in_err-add.field-0.0 c.from_residual-in_err-add.ensures.1 c.in_err-add.ensures.refused;
 }
+
+pub numbers-init : goal.numbers-init
+numbers-init g c = rw c.new-rows.ensures (record { wide = refl; each = λ a here h. absurd (omega (arith, h)); free = λ a h. absurd (omega (arith, h)) })
+
+pub is_goal-requires : goal.is_goal-requires
+is_goal-requires g c = omega (arith, c.numbers-test.true, c.len-number-end.ensures)
+
+pub offset_bounds-costs-number : goal.offset_bounds-costs-number
+offset_bounds-costs-number g c = omega (arith, c.numbers-test.true, c.len-number-end.ensures, c.requires)
+
+pub bounds-costs-number : goal.bounds-costs-number
+bounds-costs-number g c = omega (arith, c.numbers-test.true, c.len-number-end.ensures, c.requires)
+
+pub row-requires : goal.row-requires
+row-requires g c = omega (arith, c.numbers-test.true, c.len-number-end.ensures)
+
+pub offset_bounds-costs-number-in-numbers : goal.offset_bounds-costs-number-in-numbers
+offset_bounds-costs-number-in-numbers g c = omega (arith, c.numbers-test.true, c.len-number-end.ensures, c.requires)
+
+pub bounds-costs-number-in-numbers : goal.bounds-costs-number-in-numbers
+bounds-costs-number-in-numbers g c = omega (arith, c.numbers-test.true, c.len-number-end.ensures, c.requires)
+
+pub numbers-smaller : goal.numbers-smaller
+numbers-smaller g c = omega (arith, c.numbers-test.true)
+
+pub returns-clause-refused : goal.returns-clause-refused
+returns-clause-refused g c = tt

@@ -9,3 +9,6 @@ returns-in_err-resize g c = record {
   nothing = IfOk-from_err _ _ c.from_residual.ensures.0;
   refused = refused_as _ c.from_residual.result OutOfMemory c.from_residual.ensures.1 refl;
 }
+
+pub returns-clause-nothing : goal.returns-clause-nothing
+returns-clause-nothing g c = c.new.ensures.items

@@ -1,8 +1,9 @@
-use Rattle.std.proofs.Common.{◌≡◌, ◌∙◌, refl, ap, pos}
+use Rattle.std.proofs.Common.{◌≡◌, ◌∙◌, refl, ap, pos, ℕ, replicate, None}
 use Rattle.std.proofs.lemmas.Result.{IfOk-from_err}
 use Rattle.pf_base.specs.declared.error.PathError.TheVariants.{OutOfMemory}
 use Rattle.pf_base.proofs.Outcomes.{refused_as}
 use Rattle.pf_yen.proofs.NamedLemmas.{nothing_spent}
+use Rattle.pf_base.proofs.ListLemmas.{resized}
 use Rattle.pf_yen.proofs.filtered.FilteredGraph.new.Goals as goal
 
 pub returns-in_err-banned : goal.returns-in_err-banned
@@ -31,3 +32,6 @@ returns-clause-spent g c =
 
 pub returns-clause-refused : goal.returns-clause-refused
 returns-clause-refused g c = tt
+
+pub returns-clause-onward : goal.returns-clause-onward
+returns-clause-onward g c = resized c.len-2.result c.new-onward.result.items c.resize.new.self.items _ None c.new-onward.ensures.items c.new-onward.ensures.len c.in_ok-resize.ensures.items ∙ ap (λ (n : ℕ). replicate n None) c.len-2.ensures

@@ -48,3 +48,18 @@ returns-in_err-path g c =
       same = refl;
       bar = refl;
     }
+
+pub returns-in_default-clause-same : goal.returns-in_default-clause-same
+returns-in_default-clause-same g c = refl
+
+pub returns-in_default-clause-bar : goal.returns-in_default-clause-bar
+returns-in_default-clause-bar g c = refl
+
+pub invariant_of-self : goal.invariant_of-self
+invariant_of-self g c = c.self.invariant
+
+pub returns-clause-same : goal.returns-clause-same
+returns-clause-same g c = rw (← c.self.view_is) refl
+
+pub returns-clause-bar : goal.returns-clause-bar
+returns-clause-bar g c = rw (← c.self.view_is) refl

@@ -1,4 +1,4 @@
-use Rattle.std.proofs.Common.{◌≡◌, ◌∙◌, sym, false}
+use Rattle.std.proofs.Common.{◌≡◌, ◌∙◌, sym, false, true, inl, refl}
 use Rattle.pf_yen.proofs.WalkLemmas.{step_of, bars_of, progress}
 use Rattle.pf_yen.proofs.directed.yen.YenPathsByIterator.next.Goals as goal
 
@@ -30,3 +30,14 @@ step-step-requires-clause-walk g c = c.requires.1
 
 pub returns-then-was_refused-clause-again : goal.returns-then-was_refused-clause-again
 returns-then-was_refused-clause-again g c = c.requires
+
+pub returns-then-was_refused-clause-steps : goal.returns-then-was_refused-clause-steps
+returns-then-was_refused-clause-steps g c = λ edges start test w.
+    let r : c.args.self.now.refused ≡ true = rw (← c.self.view_is) (sym c.was_refused.ensures ∙ c.if-was_refused.true) in
+    (w, (inl r, refl, refl), (λ b. r, (λ b. b, λ b. b)))
+
+pub returns-then-was_refused-clause-goes : goal.returns-then-was_refused-clause-goes
+returns-then-was_refused-clause-goes g c = record { on = λ f. tt; keeps = tt; rests = λ f. f }
+
+pub invariant_of-self : goal.invariant_of-self
+invariant_of-self g c = c.self-2.invariant
