@@ -54,3 +54,9 @@ returns g c = record {
       let second = second_size row other w c.args.values.now split.result.0.now split.result.1.now swap.new.self swap.new.other c.requires.order c.requires.inside split.ensures.front split.ensures.back swap.ensures.after swap.ensures.other_after in
       swapped_others row other w c.args.values.now split.result.0.now split.result.1.now swap.new.self swap.new.other c.requires.order c.requires.inside split.ensures.front split.ensures.back first second;
 }
+
+pub slice_bounds-swap_with_slice-count : goal.slice_bounds-swap_with_slice-count
+slice_bounds-swap_with_slice-count g c = omega arith
+
+pub slice_bounds-swap_with_slice-start : goal.slice_bounds-swap_with_slice-start
+slice_bounds-swap_with_slice-start g c = omega (arith, c.split_at_mut-above.ensures.front_len, row_before c.args.row c.args.other c.args.columns c.requires.order)
