@@ -17,13 +17,13 @@ loop-row-init g c =
     record { room = c.loop-column.invariant.room; filling = rw begin c.loop-column.invariant.filling }
 
 pub overflow_mul-row : goal.overflow_mul-row
-overflow_mul-row g c = omega (arith, c.requires, mul-add-lt c.loop-row.row c.args.columns c.loop-column.column c.args.rows (omega arith) (omega arith))
+overflow_mul-row g c = omega (arith, c.requires, mul-add-lt c.loop-row.row c.args.columns c.loop-column.column c.args.rows c.loop-row-test.true c.loop-column-test.true)
 
 pub overflow_add-row : goal.overflow_add-row
-overflow_add-row g c = omega (arith, c.requires, mul-add-lt c.loop-row.row c.args.columns c.loop-column.column c.args.rows (omega arith) (omega arith))
+overflow_add-row g c = omega (arith, c.requires, mul-add-lt c.loop-row.row c.args.columns c.loop-column.column c.args.rows c.loop-row-test.true c.loop-column-test.true)
 
 pub bounds-all-row : goal.bounds-all-row
-bounds-all-row g c = omega (arith, c.requires, mul-add-lt c.loop-row.row c.args.columns c.loop-column.column c.args.rows (omega arith) (omega arith))
+bounds-all-row g c = omega (arith, c.requires, mul-add-lt c.loop-row.row c.args.columns c.loop-column.column c.args.rows c.loop-row-test.true c.loop-column-test.true)
 
 pub offset_bounds-all-row : goal.offset_bounds-all-row
 offset_bounds-all-row g c = omega (arith, bounds-all-row g c)
@@ -36,7 +36,7 @@ loop-row-preserved g c =
     let columns = c.args.columns in
     let place = λ (r k : ℕ). k * columns + r in
     let x = c.index-all-row.result in
-    let read = get_or_read all (row * columns + column) x (omega (arith, c.requires, mul-add-lt row columns column c.args.rows (omega arith) (omega arith))) c.index-all-row.is in
+    let read = get_or_read all (row * columns + column) x (omega (arith, c.requires, mul-add-lt row columns column c.args.rows c.loop-row-test.true c.loop-column-test.true)) c.index-all-row.is in
     let at : column * c.args.rows + (row + 1) ≡ column * c.args.rows + row + 1 = omega arith in
     record {
       room = omega (arith, c.loop-row.invariant.room, c.push_reserved.ensures.capacity);
@@ -47,7 +47,7 @@ loop-row-preserved g c =
 
 pub push_reserved-requires : goal.push_reserved-requires
 push_reserved-requires g c =
-    let below = mul-add-lt c.loop-column.column c.args.rows c.loop-row.row c.args.columns (omega arith) (omega arith) in
+    let below = mul-add-lt c.loop-column.column c.args.rows c.loop-row.row c.args.columns c.loop-column-test.true c.loop-row-test.true in
     omega (arith, below, c.requires, c.loop-row.values.ok.0, c.loop-row.invariant.filling.size, c.loop-row.invariant.room)
 
 pub loop-column-preserved : goal.loop-column-preserved

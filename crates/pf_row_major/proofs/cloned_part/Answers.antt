@@ -1,4 +1,5 @@
-use Rattle.std.proofs.Common.{◌≡◌, ℕ, ◌+◌, ◌*◌, ap, ◌∙◌, arith, get_or}
+use Rattle.std.proofs.Common.{◌≡◌, ℕ, ◌+◌, ◌*◌, refl, ap, ◌∙◌, arith, get_or}
+use Rattle.std.proofs.lemmas.Result.{IfOk-from_err}
 use Rattle.std.proofs.lemmas.Nat.{mul-add-lt}
 use Rattle.pf_row_major.proofs.FillLemmas.{fill_begin, fill_row}
 use Rattle.pf_row_major.proofs.SliceLemmas.{row_before}
@@ -43,3 +44,15 @@ pub returns-clause-len : goal.returns-clause-len
 returns-clause-len g c =
     let end : c.loop-row.row ≡ c.args.size.0 = omega arith in
     omega (arith, c.loop-row.values.ok.0, rw end at c.loop-row.invariant.size)
+
+pub returns-in_err-values-clause-len : goal.returns-in_err-values-clause-len
+returns-in_err-values-clause-len g c = IfOk-from_err _ _ c.from_residual.ensures.0
+
+pub returns-in_err-values-clause-values : goal.returns-in_err-values-clause-values
+returns-in_err-values-clause-values g c = IfOk-from_err _ _ c.from_residual.ensures.0
+
+pub loop-row-smaller : goal.loop-row-smaller
+loop-row-smaller g c = omega (arith, c.loop-row-test.true)
+
+pub returns-clause-no_rows : goal.returns-clause-no_rows
+returns-clause-no_rows g c = λ e. refl

@@ -1,8 +1,10 @@
-use Rattle.std.proofs.Common.{◌≡◌, ℕ, ◌+◌, ◌*◌, ◌∙◌, sym, ap, subst, arith, get_or}
+use Rattle.std.proofs.Common.{◌≡◌, ℕ, ◌+◌, ◌*◌, ◌∙◌, sym, ap, subst, arith, length, get_or}
 use Rattle.std.proofs.lemmas.List.{with_items_is}
 use Rattle.std.proofs.lemmas.Nat.{mul-add-lt}
 use Rattle.pf_row_major.specs.Parts.{row_from}
-use Rattle.pf_row_major.proofs.FillLemmas.{Filling, fill_row}
+use Rattle.std.proofs.lemmas.Result.{IfOk-from_err}
+use Rattle.pf_row_major.proofs.FillLemmas.{Filling, fill_begin, fill_row}
+use Rattle.pf_row_major.proofs.SliceLemmas.{row_before}
 use Rattle.pf_row_major.proofs.SquareLemmas.{filled_on, placed, placed_below, placed_both}
 use Rattle.pf_row_major.proofs.cloned_square.Goals as goal
 
@@ -44,3 +46,52 @@ returns g c =
           subst (λ (i : ℕ). g.C.Clone.is_clone (get_or c.args.all.now i d) (get_or c.loop-from.values.items (r * n + k) d)) (placed_both c.loop-from.from source r k (omega arith) (omega arith))
           (c.loop-from.invariant.filled.values r k d d b (rw end (omega (arith, mul-add-lt r n k n h b))));
     }
+
+pub returns-in_err-values-clause-len : goal.returns-in_err-values-clause-len
+returns-in_err-values-clause-len g c = IfOk-from_err _ _ c.from_residual.ensures.0
+
+pub returns-in_err-values-clause-values : goal.returns-in_err-values-clause-values
+returns-in_err-values-clause-values g c = IfOk-from_err _ _ c.from_residual.ensures.0
+
+pub loop-from-init : goal.loop-from-init
+loop-from-init g c =
+    let source = λ (r k : ℕ). row_from c.args.upwards c.args.size r * c.args.size + k in
+    record {
+      within = omega arith;
+      filled = fill_begin g.C.Clone.is_clone c.args.size (placed 0 source) c.args.all.now c.in_ok-values.values.items c.in_ok-values.ensures.items;
+    }
+
+pub overflow_sub-size : goal.overflow_sub-size
+overflow_sub-size g c = c.loop-from.invariant.within
+
+pub overflow_add-to : goal.overflow_add-to
+overflow_add-to g c = omega (arith, c.min.ensures, c.loop-from-test.true)
+
+pub loop-row-init : goal.loop-row-init
+loop-row-init g c = c.loop-from.invariant.filled
+
+pub row_from-requires : goal.row_from-requires
+row_from-requires g c = omega (arith, c.min.ensures, c.loop-from-test.true, c.loop-row-test.true)
+
+pub overflow_mul-begin : goal.overflow_mul-begin
+overflow_mul-begin g c = omega (arith, c.requires, row_before c.row_from.result c.args.size c.args.size c.row_from.ensures.inside)
+
+pub run-requires : goal.run-requires
+run-requires g c = omega (arith, c.requires, row_before c.row_from.result c.args.size c.args.size c.row_from.ensures.inside)
+
+pub loop-row-smaller : goal.loop-row-smaller
+loop-row-smaller g c = omega (arith, c.loop-row-test.true)
+
+pub exchange_band-requires-clause-order : goal.exchange_band-requires-clause-order
+exchange_band-requires-clause-order g c = omega arith
+
+pub exchange_band-requires-clause-inside : goal.exchange_band-requires-clause-inside
+exchange_band-requires-clause-inside g c = omega (arith, c.min.ensures, c.loop-from-test.true)
+
+pub exchange_band-requires-clause-size : goal.exchange_band-requires-clause-size
+exchange_band-requires-clause-size g c =
+    let end : c.loop-row.row ≡ c.loop-from.from + c.min.result = omega arith in
+    ap length c.as_mut_slice.ensures.value ∙ rw end at c.loop-row.invariant.size
+
+pub loop-from-smaller : goal.loop-from-smaller
+loop-from-smaller g c = omega (arith, c.min.ensures, c.loop-from-test.true)

@@ -1,7 +1,11 @@
-use Rattle.std.proofs.Common.{refl, ◌≡◌, ◌+◌, ◌-◌, ◌*◌, ◌<◌, ap, sym, ◌∙◌, arith, get_or, length, inl, inr}
+use Rattle.std.proofs.Common.{refl, ◌≡◌, ◌+◌, ◌-◌, ◌*◌, ◌<◌, ap, sym, ◌∙◌, arith, get_or, length, inl, inr, ◌^◌, ◌≤◌, ℕ, Fits, w64, rules}
 use Rattle.std.proofs.lemmas.Bool.{cases_eq}
 use Rattle.pf_row_major.proofs.SliceLemmas.{row_before, this_row, other_row, length-reversed_row, get_or-reversed_row}
 use Rattle.pf_row_major.proofs.reverse_rows.Goals as goal
+
+-- the offset of a place fits where the whole does
+offset_fits : (i n k : ℕ) → i ≤ n → n * k < 2 ^ 63 → Fits w64 (i * k)
+offset_fits i n k l m = search rules
 
 pub loop-row-preserved : goal.loop-row-preserved
 loop-row-preserved g c =
@@ -51,3 +55,6 @@ slice_bounds-reverse-end g c = omega (arith, c.requires, c.loop-row.auto.values,
 
 pub returns : goal.returns
 returns g c = record { values = λ r k d h b. c.loop-row.invariant.done r k d (omega (arith, h, c.loop-row-test.false)) b }
+
+pub offset_bounds-values-row : goal.offset_bounds-values-row
+offset_bounds-values-row g c = offset_fits (c.loop-row.row * c.args.columns) (length c.args.values.now) _ (omega (arith, c.requires, row_before c.loop-row.row c.args.rows c.args.columns c.loop-row-test.true)) c.well_formed.0.1

@@ -1,7 +1,11 @@
-use Rattle.std.proofs.Common.{◌*◌, sym, ◌∙◌, arith}
+use Rattle.std.proofs.Common.{◌*◌, sym, ◌∙◌, arith, ◌^◌, ◌<◌, ◌≤◌, ℕ, Fits, w64, rules, length}
 use Rattle.std.proofs.lemmas.List.{length-take-le}
 use Rattle.pf_row_major.proofs.SliceLemmas.{first_size, length-part, row_before, second_size, swapped_first, swapped_second, swapped_others}
 use Rattle.pf_row_major.proofs.swap_rows.Goals as goal
+
+-- the offset of a place fits where the whole does
+offset_fits : (i n k : ℕ) → i ≤ n → n * k < 2 ^ 63 → Fits w64 (i * k)
+offset_fits i n k l m = search rules
 
 pub overflow_mul-other : goal.overflow_mul-other
 overflow_mul-other g c = omega (arith, c.requires.inside)
@@ -54,3 +58,12 @@ returns g c = record {
       let second = second_size row other w c.args.values.now split.result.0.now split.result.1.now swap.new.self swap.new.other c.requires.order c.requires.inside split.ensures.front split.ensures.back swap.ensures.after swap.ensures.other_after in
       swapped_others row other w c.args.values.now split.result.0.now split.result.1.now swap.new.self swap.new.other c.requires.order c.requires.inside split.ensures.front split.ensures.back first second;
 }
+
+pub slice_bounds-swap_with_slice-count : goal.slice_bounds-swap_with_slice-count
+slice_bounds-swap_with_slice-count g c = omega arith
+
+pub slice_bounds-swap_with_slice-start : goal.slice_bounds-swap_with_slice-start
+slice_bounds-swap_with_slice-start g c = omega (arith, c.split_at_mut-above.ensures.front_len, row_before c.args.row c.args.other c.args.columns c.requires.order)
+
+pub offset_bounds-above-row : goal.offset_bounds-above-row
+offset_bounds-above-row g c = offset_fits (c.args.row * c.args.columns) (length c.args.values.now) _ (omega (arith, c.requires.inside, row_before c.args.row c.args.other c.args.columns c.requires.order)) c.well_formed.0.1

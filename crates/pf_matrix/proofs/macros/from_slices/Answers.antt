@@ -1,4 +1,4 @@
-use Rattle.std.proofs.Common.{◌≡◌, ◌+◌, ap, sym, ◌∙◌, arith, length, [], take, drop, inl, inr, ◌⊎◌, Some, Err}
+use Rattle.std.proofs.Common.{◌≡◌, ◌+◌, ap, sym, ◌∙◌, arith, length, [], take, drop, inl, inr, ◌⊎◌, Some, Err, refl, subst, take_all}
 use Rattle.std.specs.Prelude.{◌≢◌}
 use Rattle.std.proofs.lemmas.Bool.{cases_eq}
 use Rattle.std.proofs.lemmas.Result.{IfOk-from_err}
@@ -7,6 +7,8 @@ use Rattle.pf_base.proofs.Outcomes.{refused_as}
 use Rattle.pf_matrix.specs.declared.error.MatrixFormatError.TheVariants.{OutOfMemory}
 use Rattle.pf_matrix.specs.Rows.{joined, first_length, first_refusal}
 use Rattle.pf_matrix.proofs.RowLemmas.{AllZip-append, joined_more, refusal_fits, refusal_next, refusal_of}
+use Rattle.std.specs.List.{AllZip}
+use Rattle.std.proofs.lemmas.List.{drop_all}
 use Rattle.pf_matrix.proofs.macros.from_slices.Goals as goal
 
 pub loop-row-preserved : goal.loop-row-preserved
@@ -54,3 +56,30 @@ returns-in_err-extend-clause-values g c = IfOk-from_err _ _ c.from_residual.ensu
 
 pub returns-in_err-extend-clause-matrix : goal.returns-in_err-extend-clause-matrix
 returns-in_err-extend-clause-matrix g c = IfOk-from_err _ _ c.from_residual.ensures.0
+
+pub bounds-rows-row-index : goal.bounds-rows-row-index
+bounds-rows-row-index g c = c.loop-row-test.true
+
+pub slice_bounds-extend-end : goal.slice_bounds-extend-end
+slice_bounds-extend-end g c = refl
+
+pub returns-in_err-extend-clause-all_fit : goal.returns-in_err-extend-clause-all_fit
+returns-in_err-extend-clause-all_fit g c = IfOk-from_err _ _ c.from_residual.ensures.0
+
+pub loop-row-smaller : goal.loop-row-smaller
+loop-row-smaller g c = omega (arith, c.loop-row-test.true)
+
+pub returns-clause-rows : goal.returns-clause-rows
+returns-clause-rows g c = c.loop-row.invariant.rows ∙ omega (arith, c.loop-row-test.false, c.loop-row.auto.row-index-end)
+
+pub returns-clause-columns : goal.returns-clause-columns
+returns-clause-columns g c = c.loop-row.invariant.columns
+
+pub returns-clause-matrix : goal.returns-clause-matrix
+returns-clause-matrix g c = c.loop-row.invariant.matrix
+
+pub returns-clause-values : goal.returns-clause-values
+returns-clause-values g c = subst (λ xs. AllZip g.C.Clone.is_clone (joined xs) c.loop-row.matrix.values) (take_all c.loop-row.row-index c.args.rows.now (omega (arith, c.loop-row-test.false))) c.loop-row.invariant.values
+
+pub returns-clause-all_fit : goal.returns-clause-all_fit
+returns-clause-all_fit g c = sym c.loop-row.invariant.rest ∙ ap (first_refusal (first_length c.args.rows.now)) (drop_all c.loop-row.row-index c.args.rows.now (omega (arith, c.loop-row-test.false)))

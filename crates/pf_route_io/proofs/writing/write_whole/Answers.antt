@@ -1,6 +1,6 @@
 use Rattle.std.proofs.Common.{ℕ, zero, suc, ◌+◌, ◌-◌, ◌≡◌, nat_eq, nat_lt, Bool, true, false, ◌||◌, ◌&&◌, List, ◌++◌, Option, arith, length, take, drop, refl, subst, sym, ap, ◌∙◌, take-add, length-take, length-drop, take_all}
 use Rattle.std.specs.Io.KnownBytes.{Appends}
-use Rattle.std.proofs.KnownBytes.{Appends-trans}
+use Rattle.std.proofs.KnownBytes.{Appends-nil, Appends-trans}
 use Rattle.std.proofs.Math.Dec.{eqb-suc-zero}
 use Rattle.std.proofs.lemmas.List.{take_rest}
 use Rattle.pf_route_io.proofs.writing.write_whole.Goals as goal
@@ -29,3 +29,18 @@ returns-clause-ok g c = subst (Appends _ _) (take_all c.loop-at.at c.args.bytes.
 
 pub returns-clause-errors : goal.returns-clause-errors
 returns-clause-errors g c = tt
+
+pub loop-at-init : goal.loop-at-init
+loop-at-init g c = record { within = omega arith; written = Appends-nil (g.O.Sink.held c.args.output.now); unfailed = refl }
+
+pub slice_bounds-write_some-count : goal.slice_bounds-write_some-count
+slice_bounds-write_some-count g c = c.loop-at.invariant.within
+
+pub overflow_add-at : goal.overflow_add-at
+overflow_add-at g c = omega (arith, length-take {A = ℕ}, length-drop {A = ℕ}, c.in-Ok.ensures.bound, c.loop-at-test.true)
+
+pub loop-at-smaller : goal.loop-at-smaller
+loop-at-smaller g c = omega (arith, length-take {A = ℕ}, length-drop {A = ℕ}, c.in-Ok.ensures.bound, c.in-Ok.count-test, c.loop-at-test.true)
+
+pub returns-clause-unfailed : goal.returns-clause-unfailed
+returns-clause-unfailed g c = c.loop-at.invariant.unfailed

@@ -29,3 +29,22 @@ returns-else-within_bounds g c = (
   ap (λ t. inr t) c.self.view_is,
   record { writes_back = tt; inside = (λ q. absurd (false≢true q), λ h. c.if-within_bounds.ensures.1 (rw (← c.self.view_is) at h)); value = tt },
 )
+
+pub invariant_of-self : goal.invariant_of-self
+invariant_of-self g c = c.self.invariant
+
+pub invariant_of-self-else-within_bounds : goal.invariant_of-self-else-within_bounds
+invariant_of-self-else-within_bounds g c = c.self.invariant
+
+pub returns-then-within_bounds : goal.returns-then-within_bounds
+returns-then-within_bounds g c =
+    let s = c.self.inside in
+    let here = c.if-within_bounds.ensures.0 refl in
+    rw (← c.self.view_is) (
+      refl,
+      record {
+        writes_back = tt;
+        inside = (λ q. here, λ h. c.get_mut.ensures.variant.1 (omega (arith, mul-add-lt c.args.position.0 s.columns c.args.position.1 s.rows here.0 here.1, c.self.invariant.sized, s.values.ok.0)));
+        value = c.get_mut.ensures.value;
+      },
+    )

@@ -1,9 +1,11 @@
-use Rattle.std.proofs.Common.{◌≡◌, ◌∙◌, refl, ap, subst, false, true, Some, get_or}
+use Rattle.std.proofs.Common.{◌≡◌, ◌∙◌, refl, sym, ap, subst, arith, Bool, false, true, Some, get_or}
+use Rattle.std.specs.List.{refill, length_refill}
 use Rattle.std.specs.Prelude.{◌↔◌, slice_get}
 use Rattle.std.proofs.lemmas.List.{take_all, with_items_is}
 use Rattle.std.proofs.lemmas.Option.{slice_get-get_or}
 use Rattle.pf_matrix.specs.Internal.Flooding.{Has}
-use Rattle.pf_matrix.specs.Tables.{value_at}
+use Rattle.pf_matrix.specs.Tables.{Table, value_at}
+use Rattle.pf_matrix.proofs.TableLemmas.{matrix_anew}
 use Rattle.pf_matrix.proofs.MarkLemmas.{marked_more, marked_none}
 use Rattle.pf_matrix.proofs.matrix.flooding.mark.Goals as goal
 
@@ -37,3 +39,15 @@ returns g c =
       sizes = (all.rows, all.columns);
       marked = λ p h. subst (λ ps. (value_at c.loop-position.table p.0 p.1 false ≡ true) ↔ Has ps p) whole (all.marks p h);
     }
+
+pub invariant_of-table : goal.invariant_of-table
+invariant_of-table g c =
+    let s = c.table.inside in
+    let m : Table Bool = record { rows = s.rows; columns = s.columns; values = s.values.items } in
+    matrix_anew m (refill s.values.len s.values.items c.clear.new.values) c.table.invariant (sym (length_refill s.values.len s.values.items c.clear.new.values s.values.ok.0) ∙ s.values.ok.0)
+
+pub bounds-position-items-position-index : goal.bounds-position-items-position-index
+bounds-position-items-position-index g c = c.loop-position-test.true
+
+pub loop-position-smaller : goal.loop-position-smaller
+loop-position-smaller g c = omega (arith, c.loop-position-test.true)
