@@ -46,3 +46,6 @@ returns-in_err-add_flows-clause-listed g c = IfOk-from_err _ _ c.from_residual-i
 
 pub returns-in_err-add_flows-clause-refused : goal.returns-in_err-add_flows-clause-refused
 returns-in_err-add_flows-clause-refused g c = refused_as _ c.from_residual-in_err-add_flows.result _ c.from_residual-in_err-add_flows.ensures.1 c.in_err-add_flows.ensures.refused
+
+pub rows-smaller : goal.rows-smaller
+rows-smaller g c = omega (arith, c.rows-test.true)

@@ -1,5 +1,8 @@
-use Rattle.std.proofs.Common.{◌<◌, ◌∙◌, ◌++◌, ◌∷◌, [], inl, inr, refl, sym, ap, take, arith}
-use Rattle.std.proofs.lemmas.List.{take_more}
+use Rattle.std.proofs.Common.{◌<◌, ◌∙◌, ◌++◌, ◌∷◌, [], ℕ, List, inl, inr, refl, sym, subst, ap, pos, take, arith}
+use Rattle.std.proofs.lemmas.List.{take_more, take_all}
+use Rattle.std.proofs.lemmas.Result.{IfOk-from_err}
+use Rattle.pf_residual.specs.Capacities.{AreTaken, edge_table}
+use Rattle.pf_residual.specs.Networks.{HasCapacities}
 use Rattle.pf_base.proofs.Outcomes.{refused_as}
 use Rattle.pf_residual.proofs.AgreeLemmas.{capacities_kept, shape_more}
 use Rattle.pf_residual.proofs.EdgeLemmas.{first_fault, held_more, put_refused_at}
@@ -55,3 +58,51 @@ returns-in_err-sum-clause-refused g c =
     let to : e.0.1 < N.vertices = omega (arith, c.if-to-size.false, c.size-size.ensures) in
     refused_as _ c.from_residual.result _ c.from_residual.ensures.1
     (put_refused_at g.C.Number.value g.C.Number.fits N.vertices c.args.edges.now c.edges.edge-index e _ c.edges-test.true c.edge-item.is c.edges.invariant.held from to c.in_err-sum.ensures.refused)
+
+pub offset_bounds-edges-edge-index : goal.offset_bounds-edges-edge-index
+offset_bounds-edges-edge-index g c = c.edges.auto.edge-index-end
+
+pub bounds-edges-edge-index : goal.bounds-edges-edge-index
+bounds-edges-edge-index g c = c.edges-test.true
+
+pub put_capacity-requires-clause-unused : goal.put_capacity-requires-clause-unused
+put_capacity-requires-clause-unused g c = c.edges.invariant.unused
+
+pub put_capacity-requires-clause-sum : goal.put_capacity-requires-clause-sum
+put_capacity-requires-clause-sum g c = c.edges.invariant.sum
+
+pub put_capacity-requires-clause-from : goal.put_capacity-requires-clause-from
+put_capacity-requires-clause-from g c = omega (arith, c.if-from-size.false, c.size-size.ensures, c.edges.invariant.shape.vertices)
+
+pub put_capacity-requires-clause-to : goal.put_capacity-requires-clause-to
+put_capacity-requires-clause-to g c = omega (arith, c.if-to-size.false, c.size-size.ensures, c.edges.invariant.shape.vertices)
+
+pub returns-in_err-sum-clause-unused : goal.returns-in_err-sum-clause-unused
+returns-in_err-sum-clause-unused g c = IfOk-from_err _ _ c.from_residual.ensures.0
+
+pub returns-in_err-sum-clause-shape : goal.returns-in_err-sum-clause-shape
+returns-in_err-sum-clause-shape g c = IfOk-from_err _ _ c.from_residual.ensures.0
+
+pub returns-in_err-sum-clause-taken : goal.returns-in_err-sum-clause-taken
+returns-in_err-sum-clause-taken g c = IfOk-from_err _ _ c.from_residual.ensures.0
+
+pub returns-in_err-sum-clause-capacities : goal.returns-in_err-sum-clause-capacities
+returns-in_err-sum-clause-capacities g c = IfOk-from_err _ _ c.from_residual.ensures.0
+
+pub edges-smaller : goal.edges-smaller
+edges-smaller g c = omega (arith, c.edges-test.true)
+
+pub returns-clause-unused : goal.returns-clause-unused
+returns-clause-unused g c = c.edges.invariant.unused
+
+pub returns-clause-shape : goal.returns-clause-shape
+returns-clause-shape g c = c.edges.invariant.shape
+
+pub returns-clause-taken : goal.returns-clause-taken
+returns-clause-taken g c =
+    let N = g.S.FlowStore.network c.args.store.now in
+    subst (λ (xs : List ((ℕ × ℕ) × g.row.C.Denot)). AreTaken g.C.Number.value g.C.Number.fits N.vertices (λ a b. pos 0) xs) (take_all c.edges.edge-index c.args.edges.now c.edges-test.false) c.edges.invariant.held.taken
+
+pub returns-clause-capacities : goal.returns-clause-capacities
+returns-clause-capacities g c =
+    subst (λ (xs : List ((ℕ × ℕ) × g.row.C.Denot)). HasCapacities (edge_table g.C.Number.value xs) (g.S.FlowStore.network c.edges.store)) (take_all c.edges.edge-index c.args.edges.now c.edges-test.false) c.edges.invariant.held.capacities

@@ -1,5 +1,6 @@
-use Rattle.std.proofs.Common.{◌≡◌, ◌∙◌, ◌<◌, true, ap, inl, refl, sym, subst}
+use Rattle.std.proofs.Common.{◌≡◌, ◌∙◌, ◌<◌, ◌*◌, ◌^◌, ℕ, true, ap, inl, refl, sym, subst}
 use Rattle.std.proofs.lemmas.Option.{same_Some}
+use Rattle.std.proofs.lemmas.Result.{IfOk-from_err}
 use Rattle.pf_matrix.specs.Tables.{Table}
 use Rattle.pf_residual.specs.Capacities.{square_table, AreRefused}
 use Rattle.pf_residual.specs.DenseStores.{tables_network}
@@ -85,3 +86,36 @@ returns-in_err-flows-clause-refused g c =
     let table = g.M.IntoMatrix.table c.args.capacities in
     let why : AreRefused g.C.Number.fits table.rows (square_table g.C.Number.value table.rows table.values) c.in_err-flows.field-0.0 = inl c.in_err-flows.ensures.refused in
     refused_as _ c.from_residual-in_err-flows.result _ c.from_residual-in_err-flows.ensures.1 why
+
+pub returns-in_err-residuals-clause-fresh : goal.returns-in_err-residuals-clause-fresh
+returns-in_err-residuals-clause-fresh g c = IfOk-from_err _ _ c.from_residual.ensures.0
+
+pub returns-in_err-residuals-clause-capacities : goal.returns-in_err-residuals-clause-capacities
+returns-in_err-residuals-clause-capacities g c = IfOk-from_err _ _ c.from_residual.ensures.0
+
+pub returns-in_err-residuals-clause-network : goal.returns-in_err-residuals-clause-network
+returns-in_err-residuals-clause-network g c = IfOk-from_err _ _ c.from_residual.ensures.0
+
+pub returns-in_err-sum-clause-fresh : goal.returns-in_err-sum-clause-fresh
+returns-in_err-sum-clause-fresh g c = IfOk-from_err _ _ c.from_residual-in_err-sum.ensures.0
+
+pub returns-in_err-sum-clause-capacities : goal.returns-in_err-sum-clause-capacities
+returns-in_err-sum-clause-capacities g c = IfOk-from_err _ _ c.from_residual-in_err-sum.ensures.0
+
+pub returns-in_err-sum-clause-network : goal.returns-in_err-sum-clause-network
+returns-in_err-sum-clause-network g c = IfOk-from_err _ _ c.from_residual-in_err-sum.ensures.0
+
+pub returns-in_err-flows-clause-fresh : goal.returns-in_err-flows-clause-fresh
+returns-in_err-flows-clause-fresh g c = IfOk-from_err _ _ c.from_residual-in_err-flows.ensures.0
+
+pub returns-in_err-flows-clause-capacities : goal.returns-in_err-flows-clause-capacities
+returns-in_err-flows-clause-capacities g c = IfOk-from_err _ _ c.from_residual-in_err-flows.ensures.0
+
+pub returns-in_err-flows-clause-network : goal.returns-in_err-flows-clause-network
+returns-in_err-flows-clause-network g c = IfOk-from_err _ _ c.from_residual-in_err-flows.ensures.0
+
+pub zero_table-requires : goal.zero_table-requires
+zero_table-requires g c =
+    let m = c.in_ok-residuals.residuals in
+    let square = subst (λ (t : Table g.row.C.Denot). t.rows ≡ t.columns) (sym c.in_ok-residuals.ensures.matrix) c.requires.square in
+    subst (λ (n : ℕ). n * n < 2 ^ 64) (sym c.rows.ensures.rows) (subst (λ (n : ℕ). m.rows * n < 2 ^ 64) (sym square) c.rows.ensures.matrix.fits)
