@@ -67,9 +67,3 @@ returns-in_err-sum g c = record {
   shape = IfOk-from_err _ _ c.from_residual.ensures.0;
   held = IfOk-from_err _ _ c.from_residual.ensures.0;
 }
-
-pub next-requires : goal.next-requires
-next-requires g c = c.edges.iterator.0
-
-pub edges-smaller : goal.edges-smaller
-edges-smaller g c = (c.in-Some.ensures.goes.on c.edges.iterator.1).2
