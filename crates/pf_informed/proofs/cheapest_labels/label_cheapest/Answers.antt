@@ -1,15 +1,20 @@
-use Rattle.std.proofs.Common.{◌<◌, ◌∙◌, [], ◌∷◌, List, ℕ, false, sym, subst, refl, length, inl, inr}
+use Rattle.std.proofs.Common.{◌≡◌, ◌<◌, ◌∙◌, ◌++◌, [], ◌∷◌, List, ℕ, ℤ, Bool, Some, false, sym, subst, refl, length, inl, inr}
+use Rattle.std.specs.Prelude.{All, Err, IfErr, IsSome, Option, Result}
+use Rattle.std.specs.Cmp.{IsEquivalence}
 use Rattle.std.proofs.lemmas.List.{append-nil}
 use Rattle.std.proofs.lemmas.Result.{IfErr-weaker}
-use Rattle.pf_base.specs.Edges.{IsCheapestGoalPath}
+use Rattle.pf_base.specs.declared.error.PathError.{PathError}
+use Rattle.pf_base.specs.declared.error.PathError.TheVariants.{CostOverflow}
+use Rattle.pf_base.specs.Edges.{InReach, IsCheapestGoalPath}
 use Rattle.pf_core.specs.declared.labels.Label.{Label}
-use Rattle.pf_core.specs.Labels.{HasLabel}
-use Rattle.pf_core.specs.Nodes.{StandsFor, IsStep}
+use Rattle.pf_core.specs.Labels.{HasLabel, Labels}
+use Rattle.pf_core.specs.Nodes.{Explores, NodeGraph, StandsFor, IsStep}
 use Rattle.pf_core.proofs.LabelLemmas.{HasLabel-inside}
-use Rattle.pf_core.proofs.SearchLemmas.{Grows-trans}
 use Rattle.pf_core.proofs.WalkLemmas.{no_negative}
+use Rattle.pf_discovery.specs.declared.tested.TestedBy.{TestedBy}
 use Rattle.pf_informed.specs.Internal.Informed.{IsInformed}
-use Rattle.pf_informed.specs.Internal.Led.{OthersWait}
+use Rattle.pf_informed.specs.Internal.Labelled.{IsPastBest}
+use Rattle.pf_informed.specs.Internal.Led.{FindsMore, IsLed, OthersWait}
 use Rattle.pf_informed.specs.Internal.Waiting.{Entry, IsWaiting}
 use Rattle.pf_informed.proofs.LabelledLemmas.{by_cases, goal_path, no_best, exact_label, low_of}
 use Rattle.pf_informed.proofs.LedAnswers.{led_within, led_estimate, led_asked, led_none, led_past}
@@ -18,6 +23,47 @@ use Rattle.pf_informed.proofs.WiderLemmas.{less_left}
 use Rattle.pf_base.proofs.Outcomes.{if_refused, no_overflow, ok_is_no_error, refused_as}
 use Rattle.pf_informed.proofs.Outcomes.{if_none}
 use Rattle.pf_informed.proofs.cheapest_labels.label_cheapest.Goals as goal
+
+-- what is said of the best that there is
+past_best : {C : Type 0} (value : C → ℤ) (labels : Labels C) (estimates : List C) (entries : List (Entry C)) (o : Option C) (best : C) → o ≡ Some best
+    → ((k : ℕ) (l : Label C) → HasLabel labels k l → IsWaiting value estimates entries k l → IsPastBest value estimates o k l) → (k : ℕ) (l : Label C) → HasLabel labels k l → IsWaiting value estimates entries k l → IsPastBest value estimates (Some best) k l
+past_best {C} value labels estimates entries o best is h = subst (λ (q : Option C). (k : ℕ) (l : Label C) → HasLabel labels k l → IsWaiting value estimates entries k l → IsPastBest value estimates q k l) {x = o} {y = Some best} is h
+
+-- some node has no label, where that is why a path is refused
+some_past : {X : Type 0} (A : Type 0) (r : Result X PathError) (e : PathError) → r ≡ Err e → IfErr r (λ f. (f ≡ CostOverflow) × ¬ A) → ¬ A
+some_past {X} A r e is h = (subst (λ (q : Result X PathError). IfErr q (λ f. (f ≡ CostOverflow) × ¬ A)) {x = r} {y = Err e} is h).1
+
+-- the path at the same cost
+path_at : {N C : Type 0} (eq : N → N → Bool) (edges : N → List (N × ℤ)) (start : N) (test : N → Bool) (value : C → ℤ) (cost best : C) → best ≡ cost
+    → ((path : List N) × IsCheapestGoalPath eq edges (start ∷ []) test path (value cost)) → (path : List N) × IsCheapestGoalPath eq edges (start ∷ []) test path (value best)
+path_at {N} {C} eq edges start test value cost best e p = subst (λ (q : C). (path : List N) × IsCheapestGoalPath eq edges (start ∷ []) test path (value q)) {x = cost} {y = best} (sym e) p
+
+fits_at : {C : Type 0} (value : C → ℤ) (fits : ℤ → Type 0) (cost best : C) → best ≡ cost → fits (value best) → fits (value cost)
+fits_at {C} value fits cost best e f = subst (λ (q : C). fits (value q)) {x = best} {y = cost} e f
+
+-- what is known of a graph and a search after a turn
+module _ {M N C S T H : Type 0} {keys_of : M → List N} {eq : N → N → Bool} {value : C → ℤ} {edge_answers : S → List N → (N → List (N × ℤ)) → Type 0} {test_answers : T → (N → Type 0) → (N → Bool) → Type 0} {estimate_answers : H → (N → Type 0) → (N → ℤ) → Type 0} where
+  led_turned : IsEquivalence eq → (fits : ℤ → Type 0) (h : NodeGraph N) (test : N → Bool) (least : N → ℤ) (graph between after : TestedBy M S T) (estimate estimate' : H) (kept kept' : List C) (labels labels' : Labels C) (entries heap heap' : List (Entry C)) (number : ℕ)
+      → IsLed keys_of eq value edge_answers test_answers estimate_answers h test least graph estimate kept
+      → length kept ≡ length (keys_of graph.discovery.nodes) → length labels ≡ length (keys_of graph.discovery.nodes) → FindsMore keys_of eq graph between → length (keys_of between.discovery.nodes) ≡ length (keys_of graph.discovery.nodes)
+      → Explores eq edge_answers h (keys_of between.discovery.nodes) between.discovery.source × test_answers between.success (InReach eq h.edges h.starts) test
+      → (IsLed keys_of eq value edge_answers test_answers estimate_answers h test least between estimate kept → IsLed keys_of eq value edge_answers test_answers estimate_answers h test least after estimate' kept'
+          × ((passes : N → Bool) (before rest : List (Entry C)) → ((x : N) → StandsFor eq (keys_of between.discovery.nodes) number x → passes x ≡ false) → OthersWait value labels kept number before (heap ++ rest)
+              → IsInformed value fits kept (IsStep eq h) passes (StandsFor eq (keys_of between.discovery.nodes)) labels before (length (keys_of between.discovery.nodes))
+              → IsInformed value fits kept' (IsStep eq h) passes (StandsFor eq (keys_of after.discovery.nodes)) labels' (heap' ++ rest) (length (keys_of after.discovery.nodes))))
+      → OthersWait value labels kept number entries heap
+      → IsLed keys_of eq value edge_answers test_answers estimate_answers h test least after estimate' kept'
+          × ((passes : N → Bool) → ((x : N) → StandsFor eq (keys_of between.discovery.nodes) number x → passes x ≡ false)
+              → IsInformed value fits kept (IsStep eq h) passes (StandsFor eq (keys_of graph.discovery.nodes)) labels entries (length (keys_of graph.discovery.nodes))
+              → IsInformed value fits kept' (IsStep eq h) passes (StandsFor eq (keys_of after.discovery.nodes)) labels' heap' (length (keys_of after.discovery.nodes)))
+  led_turned laws fits h test least graph between after estimate estimate' kept kept' labels labels' entries heap heap' number d asked wide grows same told turn left =
+      let turned = turn (led_grown d laws asked between grows told.0 told.1) in (
+        turned.0,
+        λ passes fails i.
+            let still = informed_still value fits (IsStep eq h) passes kept (length (keys_of graph.discovery.nodes)) (length (keys_of between.discovery.nodes)) (StandsFor eq (keys_of graph.discovery.nodes)) (StandsFor eq (keys_of between.discovery.nodes)) grows same labels wide entries i in
+            subst (λ (es : List (Entry C)). IsInformed value fits kept' (IsStep eq h) passes (StandsFor eq (keys_of after.discovery.nodes)) labels' es (length (keys_of after.discovery.nodes))) {x = heap' ++ []} {y = heap'} (append-nil heap')
+            (turned.1 passes entries [] fails (subst (λ (es : List (Entry C)). OthersWait value labels kept number entries es) {x = heap} {y = heap ++ []} (sym (append-nil heap)) left) still),
+      )
 
 pub turns-init : goal.turns-init
 turns-init g c =
@@ -68,62 +114,40 @@ turn-requires-clause-graph g c =
 
 pub turns-preserved : goal.turns-preserved
 turns-preserved g c =
-    let eq = g.N.PartialEq.eq in
-    let laws = g.met.N.Eq.laws in
-    let value = g.C.Number.value in
-    let fits = g.C.Number.fits in
-    let exact = g.met.C.Integral.exact_law in
     let inv = c.turns.invariant in
     let t = c.in-Some.ensures.taken in
     let n = c.in_ok-turn.ensures in
     let look = c.best_with-best.ensures in
     let number = c.in-Some.taken.number in
-    let grown = Grows-trans _ _ _ _ _ _ look.grows n.grows in
     let labels = c.turns.search.labels.items in
     let estimates = c.turns.search.estimates.items in
     let entries = c.turns.search.queue.entries in
     let heap = c.take_within.new.queue.entries in
-    let heap_after = c.turn.new.search.queue.entries in
-    let keys = g.M.Numbering.keys c.turns.graph.discovery.nodes in
-    let between = g.M.Numbering.keys c.best_with-best.new.graph.discovery.nodes in
-    let after = g.M.Numbering.keys c.turn.new.graph.discovery.nodes in
-    let inside : number < length keys = subst (λ (m : ℕ). number < m) inv.ready.wide (HasLabel-inside labels number t.label t.at) in
-    let left = subst (λ (es : List (Entry g.row.C.Denot)). OthersWait value labels estimates number entries es) (sym (append-nil heap)) t.left in
+    let inside : number < length (g.M.Numbering.keys c.turns.graph.discovery.nodes) = subst (λ (m : ℕ). number < m) inv.ready.wide (HasLabel-inside labels number t.label t.at) in
     record {
       ready = n.ready;
-      begins = λ x s. grown.stays 0 x (inv.begins x s);
+      begins = λ x s. n.grows.stays 0 x (look.grows.stays 0 x (inv.begins x s));
       searched = λ h test least d.
           let v = inv.searched h test least d in
-          let now = v.0 in
-          let told = look.graph (with_test h test) (now.explores, now.tested) in
-          let led = led_grown now laws inv.ready.asked c.best_with-best.new.graph look.grows told.0 told.1 in
-          let turned = n.graph h test least led in
-          let still = informed_still value fits (IsStep eq h) (λ _. false) estimates (length keys) (length between) (StandsFor eq keys) (StandsFor eq between) look.grows look.same labels inv.ready.wide entries v.1 in
-          let informed = turned.1 (λ _. false) entries [] (λ x k. refl) left still in (
-            turned.0,
-            subst (λ (es : List (Entry g.row.C.Denot)). IsInformed value fits c.turn.new.search.estimates.items (IsStep eq h) (λ _. false) (StandsFor eq after) c.turn.new.search.labels.items es (length after)) (append-nil heap_after) informed,
-          );
+          let turned = led_turned g.met.N.Eq.laws g.C.Number.fits h test least c.turns.graph c.best_with-best.new.graph c.turn.new.graph c.turns.estimate c.turn.new.estimate estimates c.turn.new.search.estimates.items labels c.turn.new.search.labels.items entries heap c.turn.new.search.queue.entries number
+          v.0 inv.ready.asked inv.ready.wide look.grows look.same (look.graph (with_test h test) (v.0.explores, v.0.tested)) (n.graph h test least) t.left in
+          (turned.0, turned.1 (λ _. false) (λ x k. refl) v.1);
       unknown = λ none h test least d.
           let v = inv.searched h test least d in
-          let now = v.0 in
-          let told = look.graph (with_test h test) (now.explores, now.tested) in
           let o = look.open none in
-          let led = led_grown now laws inv.ready.asked c.best_with-best.new.graph look.grows told.0 told.1 in
-          let turned = n.graph h test least led in
-          let still = informed_still value fits (IsStep eq h) test estimates (length keys) (length between) (StandsFor eq keys) (StandsFor eq between) look.grows look.same labels inv.ready.wide entries (inv.unknown o.0 h test least d) in
-          let informed = turned.1 test entries [] (λ x k. o.1 (with_test h test) x (now.explores, now.tested) (look.grows.back number x inside k)) left still in
-          subst (λ (es : List (Entry g.row.C.Denot)). IsInformed value fits c.turn.new.search.estimates.items (IsStep eq h) test (StandsFor eq after) c.turn.new.search.labels.items es (length after)) (append-nil heap_after) informed;
+          (led_turned g.met.N.Eq.laws g.C.Number.fits h test least c.turns.graph c.best_with-best.new.graph c.turn.new.graph c.turns.estimate c.turn.new.estimate estimates c.turn.new.search.estimates.items labels c.turn.new.search.labels.items entries heap c.turn.new.search.queue.entries number
+          v.0 inv.ready.asked inv.ready.wide look.grows look.same (look.graph (with_test h test) (v.0.explores, v.0.tested)) (n.graph h test least) t.left).1 test (λ x k. o.1 (with_test h test) x (v.0.explores, v.0.tested) (look.grows.back number x inside k)) (inv.unknown o.0 h test least d);
       least = λ b is. by_cases _ (look.found b is)
           (λ was. inv.least b was)
           (λ new. (
             new.2,
             λ start edges test least s d.
+                let exact = g.met.C.Integral.exact_law in
                 let v = inv.searched (graph_of start edges) test least d in
                 let now = v.0 in
-                let known_path = goal_path eq laws start edges test now.explores.alike now.costs now.same_test value fits (λ x y z. g.C.Number.between_law x y z exact) (g.met.C.Zero.zero_fits_law exact)
-                least now.same_estimate now.admissible keys now.explores.reached now.explores.distinct estimates now.estimated inv.ready.asked (inv.begins start s) labels entries inv.ready.sound.forest (inv.unknown new.0 (graph_of start edges) test least d)
-                number c.in-Some.taken.cost heap t (subst (λ (q : g.row.C.Denot). fits (value q)) new.1 new.2) inside (λ y k. new.3 (with_test (graph_of start edges) test) y (now.explores, now.tested) k) in
-                (known_path.0, subst (λ (q : g.row.C.Denot). IsCheapestGoalPath eq edges (start ∷ []) test known_path.0 (value q)) (sym new.1) known_path.1),
+                path_at g.N.PartialEq.eq edges start test g.C.Number.value c.in-Some.taken.cost b new.1 (goal_path g.N.PartialEq.eq g.met.N.Eq.laws start edges test now.explores.alike now.costs now.same_test g.C.Number.value g.C.Number.fits (λ x y z. g.C.Number.between_law x y z exact) (g.met.C.Zero.zero_fits_law exact)
+                least now.same_estimate now.admissible (g.M.Numbering.keys c.turns.graph.discovery.nodes) now.explores.reached now.explores.distinct estimates now.estimated inv.ready.asked (inv.begins start s) labels entries inv.ready.sound.forest (inv.unknown new.0 (graph_of start edges) test least d)
+                number c.in-Some.taken.cost heap t (fits_at g.C.Number.value g.C.Number.fits c.in-Some.taken.cost b new.1 new.2) inside (λ y k. new.3 (with_test (graph_of start edges) test) y (now.explores, now.tested) k)),
           ));
     }
 
@@ -156,7 +180,7 @@ returns-in-Some-best g c = record {
           begins = begins;
           exact = exact_label eq laws h now.explores.alike value g.C.Number.fits (λ x y z. g.C.Number.between_law x y z exact) (g.met.C.Zero.zero_fits_law exact) test now.same_test least now.admissible (no_negative eq laws h now.explores.alike now.costs) keys estimates start begins
               (led_within laws now inv.ready.asked begins) (led_estimate laws now inv.ready.asked begins) (led_asked laws now inv.ready.asked begins)
-              c.turns.search.labels.items c.turns.search.queue.entries inv.ready.sound.forest (length keys) v.1 best (rw is at c.in_default.ensures.taken) known.0 (low_of eq laws start edges test now.explores.alike (value best) cheapest.best);
+              c.turns.search.labels.items c.turns.search.queue.entries inv.ready.sound.forest (length keys) v.1 best (past_best value c.turns.search.labels.items estimates c.turns.search.queue.entries c.turns.best best is c.in_default.ensures.taken) known.0 (low_of eq laws start edges test now.explores.alike (value best) cheapest.best);
           path = path;
         },
       );
@@ -183,9 +207,9 @@ returns g c = record {
       let v = inv.searched (graph_of start edges) test least d in
       let unknown = c.in_default-best.is in
       let none_waits : (k : ℕ) (l : Label g.row.C.Denot) → HasLabel c.turns.search.labels.items k l → ¬ (IsWaiting value c.turns.search.estimates.items c.turns.search.queue.entries k l) = λ k l at w. let b = c.in_default.ensures.taken k l at w in no_best b.0 (sym unknown ∙ b.1) in
-      let past = rw refused at c.no_path.ensures.past in
+      let past = some_past (All (λ o. IsSome o) c.turns.search.labels.items) c.no_path.result CostOverflow refused c.no_path.ensures.past in
       led_past g.met.N.Eq.laws v.0 inv.ready.asked (inv.begins start s) g.C.Number.fits (λ x y z. g.C.Number.between_law x y z exact) (g.met.C.Zero.zero_fits_law exact)
-      c.turns.search.labels.items inv.ready.wide c.turns.search.queue.entries inv.ready.sound.forest (inv.unknown unknown (graph_of start edges) test least d) none_waits past.1;
+      c.turns.search.labels.items inv.ready.wide c.turns.search.queue.entries inv.ready.sound.forest (inv.unknown unknown (graph_of start edges) test least d) none_waits past;
   errors = IfErr-weaker c.no_path.result _ _ (λ e h. inr h.0) c.no_path.ensures.past;
 }
 

@@ -1,12 +1,30 @@
-use Rattle.std.proofs.Common.{◌≡◌, ◌∙◌, ap, sym, refl, arith, pos, length, false}
+use Rattle.std.proofs.Common.{◌≡◌, ◌≤◌, ◌^◌, ◌∙◌, [], ◌∷◌, ℕ, List, Some, ap, sym, subst, refl, arith, pos, length, false}
 use Rattle.pf_core.specs.declared.labels.Label.{Label}
+use Rattle.pf_core.specs.Labels.{Labels}
 use Rattle.pf_core.specs.Nodes.{StandsFor, IsStep}
 use Rattle.pf_base.proofs.Outcomes.{on_ok, on_refused, refused_as}
+use Rattle.pf_informed.specs.Internal.Forest.{IsForest}
+use Rattle.pf_informed.specs.Internal.Informed.{IsInformed}
+use Rattle.pf_informed.specs.Internal.Led.{IsLed}
+use Rattle.pf_informed.specs.Internal.Waiting.{IsQueue, SumsFit}
 use Rattle.pf_informed.proofs.InformedLemmas.{forest_begin, queue_begin, sums_begin, informed_begin}
 use Rattle.pf_informed.proofs.LedLemmas.{led_more}
 use Rattle.pf_informed.proofs.TightLemmas.{both_ok}
 use Rattle.pf_informed.proofs.Bounds.{none_more}
 use Rattle.pf_informed.proofs.turns.begin.Goals as goal
+
+one_few : (n : ℕ) → n ≡ 1 → n ≤ 2 ^ 32
+one_few n e = omega (arith, e)
+
+one_each : (l e f : ℕ) → l ≡ 1 → e ≡ f → f ≡ 1 → l ≤ e
+one_each l e f p q r = omega (arith, p, q, r)
+
+-- what holds of equal lists
+by_two : {A B : Type 0} (P : A → B → Type 0) (a a' : A) (b b' : B) → a' ≡ a → b' ≡ b → P a b → P a' b'
+by_two P a a' b b' e f h = subst (λ x. P x b') {x = a} {y = a'} (sym e) (subst (P a) {x = b} {y = b'} (sym f) h)
+
+by_three : {A B D : Type 0} (P : A → B → D → Type 0) (a a' : A) (b b' : B) (d d' : D) → a' ≡ a → b' ≡ b → d' ≡ d → P a b d → P a' b' d'
+by_three P a a' b b' d d' e f q h = subst (λ x. P x b' d') {x = a} {y = a'} (sym e) (by_two (P a) b b' d d' f q h)
 
 pub ask-requires-clause-graph : goal.ask-requires-clause-graph
 ask-requires-clause-graph g c =
@@ -25,11 +43,11 @@ returns g c =
           let asked = ap length b.estimates ∙ c.in_ok-ask.ensures.all in
           record {
             sound = record {
-              forest = rw begun.0 (forest_begin g.C.Number.value first nothing refl);
-              few = omega (arith, labels);
-              estimated = omega (arith, labels, asked, c.requires.one);
-              sums = rw (begun.0, b.estimates) (sums_begin g.C.Number.value first nothing refl c.ask.new.estimates.items begun.1.0 begun.1.1 c.begin.new.self.queue.entries begun.1.3 g.C.Number.fits begun.1.2);
-              queue = rw (begun.0, b.estimates) (queue_begin g.C.Number.value first nothing refl c.ask.new.estimates.items begun.1.0 begun.1.1 c.begin.new.self.queue.entries begun.1.3);
+              forest = subst (λ (ls : Labels g.row.C.Denot). IsForest g.C.Number.value ls) {x = Some first ∷ []} {y = c.begin.new.self.labels.items} (sym begun.0) (forest_begin g.C.Number.value first nothing refl);
+              few = one_few _ labels;
+              estimated = one_each _ _ _ labels asked c.requires.one;
+              sums = by_two (λ (ls : Labels g.row.C.Denot) (es : List g.row.C.Denot). SumsFit g.C.Number.value g.C.Number.fits ls es) (Some first ∷ []) c.begin.new.self.labels.items c.ask.new.estimates.items c.begin.new.self.estimates.items begun.0 b.estimates (sums_begin g.C.Number.value first nothing refl c.ask.new.estimates.items begun.1.0 begun.1.1 c.begin.new.self.queue.entries begun.1.3 g.C.Number.fits begun.1.2);
+              queue = by_two (λ (ls : Labels g.row.C.Denot) (es : List g.row.C.Denot). IsQueue g.C.Number.value ls es c.begin.new.self.queue.entries) (Some first ∷ []) c.begin.new.self.labels.items c.ask.new.estimates.items c.begin.new.self.estimates.items begun.0 b.estimates (queue_begin g.C.Number.value first nothing refl c.ask.new.estimates.items begun.1.0 begun.1.1 c.begin.new.self.queue.entries begun.1.3);
             };
             wide = labels ∙ sym c.requires.one;
             asked = asked;
@@ -38,10 +56,10 @@ returns g c =
           let eq = g.N.PartialEq.eq in
           let keys = g.M.Numbering.keys c.args.graph.now.discovery.nodes in
           let a = c.in_ok-ask.ensures.graph h least d.asked d.explores.reached in (
-            rw b.estimates (led_more d a.0 a.1),
+            subst (λ (es : List g.row.C.Denot). IsLed g.M.Numbering.keys eq g.C.Number.value g.S.EdgeSource.answers g.T.NodeTest.answers g.H.EstimateFunction.answers h test least c.args.graph.now c.ask.new.estimate es) {x = c.ask.new.estimates.items} {y = c.begin.new.self.estimates.items} (sym b.estimates) (led_more d a.0 a.1),
             λ passes.
                 let i = informed_begin g.C.Number.value first nothing refl c.ask.new.estimates.items w.1.0 w.1.1 c.begin.new.self.queue.entries w.1.3 g.C.Number.fits (IsStep eq h) passes (StandsFor eq keys) in
-                rw (w.0, b.estimates, c.requires.one) i,
+                by_three (λ (ls : Labels g.row.C.Denot) (es : List g.row.C.Denot) (n : ℕ). IsInformed g.C.Number.value g.C.Number.fits es (IsStep eq h) passes (StandsFor eq keys) ls c.begin.new.self.queue.entries n) (Some first ∷ []) c.begin.new.self.labels.items c.ask.new.estimates.items c.begin.new.self.estimates.items 1 (length keys) w.0 b.estimates c.requires.one i,
           ));
       refused = b.refused;
     }
@@ -54,7 +72,7 @@ returns-in_err-ask g c = record {
 }
 
 pub ask-requires-clause-few : goal.ask-requires-clause-few
-ask-requires-clause-few g c = rw c.requires.new.unasked (none_more _)
+ask-requires-clause-few g c = subst (λ (es : List g.row.C.Denot). length es ≤ length (g.M.Numbering.keys c.args.graph.now.discovery.nodes)) {x = []} {y = c.args.search.now.estimates.items} (sym c.requires.new.unasked) (none_more _)
 
 pub begin-requires-clause-unlabelled : goal.begin-requires-clause-unlabelled
 begin-requires-clause-unlabelled g c = c.requires.new.unlabelled

@@ -1,5 +1,6 @@
 use Rattle.std.proofs.Common.{◌≡◌, ◌<◌, [], ◌∷◌, List, ℕ, ℤ, pos, true, length, ap, ◌∙◌, sym, subst, inl, inr, false, Some, None}
 use Rattle.std.specs.Prelude.{◌≤ℤ◌, ◌↔◌, ◌⊎◌, Contains, reverse}
+use Rattle.std.proofs.lemmas.Option.{MatchOption-at_some, MatchOption-at_none}
 use Rattle.pf_base.proofs.ListLemmas.{Contains-cases, none_in}
 use Rattle.pf_core.proofs.NodeLemmas.{InReach-same}
 use Rattle.pf_deepening.specs.declared.rows.Span.{Span}
@@ -23,7 +24,7 @@ turns-init g c =
     let keys = g.M.Numbering.keys after.graph.discovery.nodes in
     let e = c.in_ok-span.ensures in
     let s = c.in-Some.span in
-    let has = rw c.in-Some.is at e.kept in
+    let has = MatchOption-at_some _ _ c.in-Some.span c.in-Some.is e.kept in
     let within = e.more.whole.table.within 0 s has in
     let nothing : value c.zero-nothing.result ≡ pos 0 = ap value c.zero-nothing.ensures ∙ g.met.C.Zero.zero_law g.met.C.Integral.exact_law in
     let way = c.in_ok-way.way in
@@ -42,7 +43,7 @@ turns-init g c =
     record {
       start = start_of_more e.more;
       stack =
-          let opened = rw c.in-Some.is at e.opened in
+          let opened = MatchOption-at_some _ _ c.in-Some.span c.in-Some.is e.opened in
           let entered = stack_entered c.args.known.now.rows.steps.items c.args.known.now.rows.spans.items (λ i q h. (c.requires.whole.table.within i q h).0) after.rows.steps.items after.rows.spans.items e.more.steps e.more.spans [] (length (g.M.Numbering.keys c.args.known.now.graph.discovery.nodes)) (length keys) e.more.grows.more c.requires.whole.table.inside
           (no_stack c.args.known.now.rows.steps.items c.args.known.now.rows.spans.items _ c.requires.unopened) way.frame s (subst (λ (n : ℕ). HasSpan after.rows.spans.items n s) (sym number) has) within.1 opened.0 opened.1 (subst (λ (n : ℕ). n < length (g.M.Numbering.keys c.args.known.now.graph.discovery.nodes)) (sym number) c.requires.begun)
           (subst (λ (n : ℕ). (i : ℕ) (t : Span) → HasSpan after.rows.spans.items i t → HasSpan c.args.known.now.rows.spans.items i t ⊎ (i ≡ n)) (sym number) e.only) in
@@ -85,11 +86,12 @@ turn-requires-clause-graph g c =
 pub turns-preserved : goal.turns-preserved
 turns-preserved g c = record {
   start = start_trans c.turns.invariant.start c.in_ok-round.ensures.start;
-  marked = rw c.in_default-2.is at c.in_ok-round.ensures.marked;
-  stack = rw c.in_default-2.is at c.in_ok-round.ensures.stack;
+  marked = MatchOption-at_none _ _ c.in_default-2.is c.in_ok-round.ensures.marked;
+  stack = MatchOption-at_none _ _ c.in_default-2.is c.in_ok-round.ensures.stack;
   searched = λ h test least first k s low.
       let v = c.turns.invariant.searched h test least first k s low in
-      rw c.in_default-2.is at (c.in_ok-round.ensures.graph h test least first v.0 v.1);
+      let q = c.in_ok-round.ensures.graph h test least first v.0 v.1 in
+      (q.0, MatchOption-at_none _ _ c.in_default-2.is q.1);
 }
 
 pub returns-in_err-span : goal.returns-in_err-span
@@ -131,11 +133,12 @@ returns-in_err-round g c = record {
 pub returns-in-Some-2 : goal.returns-in-Some-2
 returns-in-Some-2 g c = record {
   start = start_trans c.turns.invariant.start c.in_ok-round.ensures.start;
-  unopened = rw c.in-Some-2.is at c.in_ok-round.ensures.stack;
+  unopened = MatchOption-at_some _ _ c.in-Some-2.round c.in-Some-2.is c.in_ok-round.ensures.stack;
   graph = λ h test least first k s low.
       let v = c.turns.invariant.searched h test least first k s low in
-      rw c.in-Some-2.is at (c.in_ok-round.ensures.graph h test least first v.0 v.1);
-  round = rw c.in-Some-2.is at c.in_ok-round.ensures.marked;
+      let q = c.in_ok-round.ensures.graph h test least first v.0 v.1 in
+      (q.0, MatchOption-at_some _ _ c.in-Some-2.round c.in-Some-2.is q.1);
+  round = MatchOption-at_some _ _ c.in-Some-2.round c.in-Some-2.is c.in_ok-round.ensures.marked;
   refused = tt;
 }
 
@@ -149,7 +152,7 @@ pub turn-requires-clause-stack : goal.turn-requires-clause-stack
 turn-requires-clause-stack g c = c.turns.invariant.stack
 
 pub turns-smaller : goal.turns-smaller
-turns-smaller g c = rw c.in_default-2.is at c.in_ok-round.ensures.less
+turns-smaller g c = MatchOption-at_none _ _ c.in_default-2.is c.in_ok-round.ensures.less
 
 pub returns-in_default : goal.returns-in_default
 returns-in_default g c = record {
@@ -158,11 +161,12 @@ returns-in_default g c = record {
       let laws = g.met.N.Eq.laws in
       let value = g.C.Number.value in
       let keys = g.M.Numbering.keys c.span_of.new.self.graph.discovery.nodes in
-      let told = rw c.in_default.is at (c.in_ok-span.ensures.graph h test least k) in
+      let told = c.in_ok-span.ensures.graph h test least k in
+      let goal = MatchOption-at_none _ _ c.in_default.is told.1 in
       let here = c.in_ok-span.ensures.more.grows.stays 0 first s in
       let nothing : value c.zero-nothing.result ≡ pos 0 = ap value c.zero-nothing.ensures ∙ g.met.C.Zero.zero_law g.met.C.Integral.exact_law in
       let from = k.led.admissible.from_zero first (InReach-same eq laws h.edges h.starts s.0 first (k.led.explores.reached 0 s.0 s.1) s.2) in
-      (told.0, (start_way eq laws value g.C.Number.fits h test least first keys here (told.1 first here) c.in_ok-numbers.numbers.items c.in_ok-numbers.ensures.numbers (value c.zero-nothing.result) nothing, subst (λ (z : ℤ). z ≤ℤ value c.args.limit) (sym nothing) (at_most_both _ _ _ from low)));
+      (told.0, (start_way eq laws value g.C.Number.fits h test least first keys here (goal first here) c.in_ok-numbers.numbers.items c.in_ok-numbers.ensures.numbers (value c.zero-nothing.result) nothing, subst (λ (z : ℤ). z ≤ℤ value c.args.limit) (sym nothing) (at_most_both _ _ _ from low)));
   start = start_of_more c.in_ok-span.ensures.more;
   unopened = tt;
   refused = tt;
