@@ -1,4 +1,6 @@
-use Rattle.std.proofs.Common.{◌∙◌, false, ◌^◌, arith, sym}
+use Rattle.std.proofs.Common.{◌∙◌, false, ◌^◌, arith, sym, ap, length}
+use Rattle.std.proofs.lemmas.Result.{IfOk-from_err}
+use Rattle.pf_base.proofs.Outcomes.{refused_by}
 use Rattle.pf_table_searches.proofs.TrailLemmas.{searched_first, searched_past, searched_into, searched_back, goal_found, none_found, no_items, node_below, node_inside}
 use Rattle.pf_table_searches.proofs.TrailMeasure.{left_moves, left_enters, left_leaves}
 use Rattle.pf_table_searches.proofs.deepening.deepen.Goals as goal
@@ -56,3 +58,29 @@ returns-in-None-pop-clause-found g c =
     let all = rw c.deref.ensures.value at c.in-None.ensures in
     none_found g.C.Number.value (g.G.Graph.size c.args.graph.now) (g.G.Graph.places c.args.graph.now) c.args.from (g.T.Goals.passes c.args.goals) c.args.limit c.steps.cut c.steps.entries.items c.steps.node c.steps.place c.steps.marked.items c.steps.invariant
     all c.pop.new.self.items (no_items c.steps.entries.items (omega (arith, c.in-None-pop.ensures.cases, c.steps.entries.ok))) (no_items c.pop.new.self.items (omega (arith, c.in-None-pop.ensures.cases, c.pop.new.self.ok)))
+
+pub index_mut-requires : goal.index_mut-requires
+index_mut-requires g c = omega (arith, c.requires.inside, c.requires.wide, c.args.marked.now.ok)
+
+pub next_end-requires-clause-wide : goal.next_end-requires-clause-wide
+next_end-requires-clause-wide g c = ap length c.deref.ensures.value ∙ c.steps.invariant.wide
+
+pub returns-in_err-push-in-Some-clause-found : goal.returns-in_err-push-in-Some-clause-found
+returns-in_err-push-in-Some-clause-found g c = IfOk-from_err _ _ c.from_residual.ensures.0
+
+pub returns-in_err-push-in-Some-clause-refused : goal.returns-in_err-push-in-Some-clause-refused
+returns-in_err-push-in-Some-clause-refused g c = refused_by _ c.from_residual.result c.from_residual.ensures.1
+
+pub returns-in_err-push-in-Some-2-clause-found : goal.returns-in_err-push-in-Some-2-clause-found
+returns-in_err-push-in-Some-2-clause-found g c = IfOk-from_err _ _ c.from_residual-in_err-push-in-Some-2.ensures.0
+
+pub returns-in_err-push-in-Some-3-clause-found : goal.returns-in_err-push-in-Some-3-clause-found
+returns-in_err-push-in-Some-3-clause-found g c = IfOk-from_err _ _ c.from_residual-in_err-push-in-Some-3.ensures.0
+
+pub overflow_add-len : goal.overflow_add-len
+overflow_add-len g c = omega (arith, c.len.ensures, c.steps.entries.ok, c.steps.invariant.short, c.ranges.limit.fits)
+
+pub index_mut-requires-then-len-limit : goal.index_mut-requires-then-len-limit
+index_mut-requires-then-len-limit g c =
+    let n = rw c.deref.ensures.value at c.in-Some.ensures in
+    omega (arith, n.inside, c.steps.invariant.wide, c.steps.marked.ok)

@@ -1,10 +1,16 @@
-use Rattle.std.proofs.Common.{rules, ap}
+use Rattle.std.proofs.Common.{◌≡◌, ℕ, eqb, true, rules, ap}
+use Rattle.std.proofs.lemmas.Result.{IfOk-from_err}
 use Rattle.std.proofs.lemmas.Iterator.Consumers.{YieldsList-from_first}
+use Rattle.pf_base.proofs.Outcomes.{refused_as}
 use Rattle.pf_base.proofs.Sources.{gives_chain}
 use Rattle.pf_tables.specs.Graphs.{successors_of}
 use Rattle.pf_table_functions.proofs.EdgeLemmas.{table_successors}
 use Rattle.pf_table_functions.proofs.TableExplores.{table_hops}
 use Rattle.pf_table_searches.proofs.loops.bfs_loop.Goals as goal
+
+-- a number is found equal to itself
+found_equal : (x y : ℕ) → y ≡ x → eqb x y ≡ true
+found_equal x y e = search rules
 
 pub loop_from-requires-clause-graph : goal.loop_from-requires-clause-graph
 loop_from-requires-clause-graph g c =
@@ -35,3 +41,18 @@ returns-in-Some-clause-best g c =
 pub returns-in-None-clause-best : goal.returns-in-None-clause-best
 unfolding bfs_loop-requires-clause-graph
 returns-in-None-clause-best g c = let p = bfs_loop-requires-clause-graph g c.before in c.bfs_loop.ensures.best p.0 p.1
+
+pub returns-in_err-found-clause-best : goal.returns-in_err-found-clause-best
+returns-in_err-found-clause-best g c = IfOk-from_err _ _ c.from_residual.ensures.0
+
+pub returns-in_err-found-clause-errors : goal.returns-in_err-found-clause-errors
+returns-in_err-found-clause-errors g c = refused_as _ c.from_residual.result _ c.from_residual.ensures.1 c.in_err-found.ensures.refused
+
+pub loop_from-requires-clause-clones : goal.loop_from-requires-clause-clones
+loop_from-requires-clause-clones g c = found_equal
+
+pub bfs_loop-requires-clause-clones : goal.bfs_loop-requires-clause-clones
+bfs_loop-requires-clause-clones g c = found_equal
+
+pub returns-in-None-clause-errors : goal.returns-in-None-clause-errors
+returns-in-None-clause-errors g c = c.bfs_loop.ensures.errors

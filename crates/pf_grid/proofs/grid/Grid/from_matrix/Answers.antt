@@ -52,3 +52,18 @@ returns-in_err-grid g c = record {
 
 pub returns-clause-refused : goal.returns-clause-refused
 returns-clause-refused g c = tt
+
+pub loop-x-init : goal.loop-x-init
+loop-x-init g c = c.loop-y.invariant
+
+pub index-requires : goal.index-requires
+index-requires g c = (omega (arith, c.loop-y-test.true, c.rows-height.ensures.rows), omega (arith, c.loop-x-test.true, c.columns-width.ensures.columns))
+
+pub put-requires : goal.put-requires
+put-requires g c = (omega (arith, ap (λ t. t.width) c.loop-x.invariant, c.loop-x-test.true), omega (arith, ap (λ t. t.height) c.loop-x.invariant, c.loop-y-test.true))
+
+pub loop-x-smaller : goal.loop-x-smaller
+loop-x-smaller g c = omega (arith, c.loop-x-test.true)
+
+pub loop-y-smaller : goal.loop-y-smaller
+loop-y-smaller g c = omega (arith, c.loop-y-test.true)
