@@ -1,4 +1,4 @@
-use Rattle.std.proofs.Common.{◌≡◌, ◌<◌, ◌∙◌, length, sym, subst, Some, None, slice_get, arith, ℕ, pos, refl}
+use Rattle.std.proofs.Common.{◌≡◌, ◌<◌, ◌∙◌, ap, length, sym, subst, Some, None, slice_get, arith, ℕ, pos, refl}
 use Rattle.std.specs.Prelude.{◌+ℤ◌, ◌≤ℤ◌}
 use Rattle.std.proofs.lemmas.Int.{ints}
 use Rattle.std.proofs.lemmas.Option.{same_Some}
@@ -94,3 +94,19 @@ returns-in_default-checked_add g c = record {
       (subst (λ (n : Label g.row.C.Denot). pos 0 ≤ℤ g.C.Number.value n.cost) (sym second) pm) never));
   meets = tt;
 }
+
+pub bounds-found-number : goal.bounds-found-number
+bounds-found-number g c = omega (arith, c.requires.inside, ap length c.as_slice-found.ensures.keys)
+
+pub offset_bounds-found-number : goal.offset_bounds-found-number
+offset_bounds-found-number g c = omega (arith, c.requires.inside, ap length c.as_slice-found.ensures.keys)
+
+pub index-requires : goal.index-requires
+index-requires g c =
+    let item = c.index-found-number.result in
+    let at : slice_get (g.M.Numbering.keys c.args.nodes.now) c.args.number ≡ Some item = read_at _ _ _ _ _ c.as_slice-found.ensures.keys c.requires.inside c.index-found-number.is in
+    let place = when_some _ _ _ _ c.in-Some.is (place_across g.N.PartialEq.eq g.met.N.Eq.laws (g.M.Numbering.keys c.args.nodes.now) (g.M.Numbering.keys c.args.other_nodes.now) c.args.number item c.get_number_of.result at c.get_number_of.ensures) in
+    omega (arith, place.0, c.requires.wide, c.args.other_search.now.labels.ok)
+
+pub label_of-here-requires : goal.label_of-here-requires
+label_of-here-requires g c = c.requires.labelled
