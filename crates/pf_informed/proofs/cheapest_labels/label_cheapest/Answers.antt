@@ -48,14 +48,14 @@ module _ {M N C S T H : Type 0} {keys_of : M → List N} {eq : N → N → Bool}
       → length kept ≡ length (keys_of graph.discovery.nodes) → length labels ≡ length (keys_of graph.discovery.nodes) → FindsMore keys_of eq graph between → length (keys_of between.discovery.nodes) ≡ length (keys_of graph.discovery.nodes)
       → Explores eq edge_answers h (keys_of between.discovery.nodes) between.discovery.source × test_answers between.success (InReach eq h.edges h.starts) test
       → (IsLed keys_of eq value edge_answers test_answers estimate_answers h test least between estimate kept → IsLed keys_of eq value edge_answers test_answers estimate_answers h test least after estimate' kept'
-          × ((passes : N → Bool) (before rest : List (Entry C)) → ((x : N) → StandsFor eq (keys_of between.discovery.nodes) number x → passes x ≡ false) → OthersWait value labels kept number before (heap ++ rest)
-              → IsInformed value fits kept (IsStep eq h) passes (StandsFor eq (keys_of between.discovery.nodes)) labels before (length (keys_of between.discovery.nodes))
-              → IsInformed value fits kept' (IsStep eq h) passes (StandsFor eq (keys_of after.discovery.nodes)) labels' (heap' ++ rest) (length (keys_of after.discovery.nodes))))
+      × ((passes : N → Bool) (before rest : List (Entry C)) → ((x : N) → StandsFor eq (keys_of between.discovery.nodes) number x → passes x ≡ false) → OthersWait value labels kept number before (heap ++ rest)
+      → IsInformed value fits kept (IsStep eq h) passes (StandsFor eq (keys_of between.discovery.nodes)) labels before (length (keys_of between.discovery.nodes))
+      → IsInformed value fits kept' (IsStep eq h) passes (StandsFor eq (keys_of after.discovery.nodes)) labels' (heap' ++ rest) (length (keys_of after.discovery.nodes))))
       → OthersWait value labels kept number entries heap
       → IsLed keys_of eq value edge_answers test_answers estimate_answers h test least after estimate' kept'
-          × ((passes : N → Bool) → ((x : N) → StandsFor eq (keys_of between.discovery.nodes) number x → passes x ≡ false)
-              → IsInformed value fits kept (IsStep eq h) passes (StandsFor eq (keys_of graph.discovery.nodes)) labels entries (length (keys_of graph.discovery.nodes))
-              → IsInformed value fits kept' (IsStep eq h) passes (StandsFor eq (keys_of after.discovery.nodes)) labels' heap' (length (keys_of after.discovery.nodes)))
+      × ((passes : N → Bool) → ((x : N) → StandsFor eq (keys_of between.discovery.nodes) number x → passes x ≡ false)
+      → IsInformed value fits kept (IsStep eq h) passes (StandsFor eq (keys_of graph.discovery.nodes)) labels entries (length (keys_of graph.discovery.nodes))
+      → IsInformed value fits kept' (IsStep eq h) passes (StandsFor eq (keys_of after.discovery.nodes)) labels' heap' (length (keys_of after.discovery.nodes)))
   led_turned laws fits h test least graph between after estimate estimate' kept kept' labels labels' entries heap heap' number d asked wide grows same told turn left =
       let turned = turn (led_grown d laws asked between grows told.0 told.1) in (
         turned.0,

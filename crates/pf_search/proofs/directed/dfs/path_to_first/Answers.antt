@@ -84,8 +84,7 @@ module _ {N : Type 0} (eq : N → N → Bool) (laws : IsEquivalence eq) (next : 
     goes bad others known asked e xs listed found ks wait f k depth deep order =
         let x = here.node in
         let there = at others known asked e in
-        let turned = alike asked x (reached others known asked e) (same_at eq laws keys' number asked x there here.stands) in
-        (
+        let turned = alike asked x (reached others known asked e) (same_at eq laws keys' number asked x there here.stands) in (
           paths ++ here.path ∷ [],
           stands_on eq laws next start paths here.path x here.up keys' numbers' waiting' here.descent xs found ks wait
               (Same-trans eq laws (next x) (next asked) xs (Same-sym eq laws (next asked) (next x) turned) (Same-sym eq laws xs (next asked) listed)) f k (order ∙ ap (λ (n : ℕ). waiting_at n xs ++ reverse waiting') deep),
