@@ -1,9 +1,11 @@
-use Rattle.std.proofs.Common.{◌≡◌, ◌∙◌, ◌<◌, ◌+◌, ap, sym, ℕ, List, [], ◌∷◌, ◌++◌, append-nil, length, take, slice_get, slice_index_or}
+use Rattle.std.proofs.Common.{◌≡◌, ◌∙◌, ◌<◌, ◌+◌, ap, sym, arith, ℕ, List, [], ◌∷◌, ◌++◌, append-nil, length, take, slice_get, slice_index_or}
 use Rattle.std.specs.Prelude.{Option, None, Some}
 use Rattle.std.specs.List.{cons_option, filter_map}
-use Rattle.std.proofs.lemmas.List.{map-append, take_more}
+use Rattle.std.proofs.lemmas.List.{map-append, take_all, take_more}
 use Rattle.std.proofs.lemmas.List.Elements.{filter_map-append}
 use Rattle.std.proofs.lemmas.Option.{slice_get_past}
+use Rattle.std.proofs.lemmas.Result.{IfOk-from_err}
+use Rattle.pf_base.proofs.Outcomes.{refused_by}
 use Rattle.pf_base.specs.NodeRefs.{nodes_of}
 use Rattle.pf_edge_lists.specs.EdgeLists.{names_of}
 use Rattle.pf_name_numbers.proofs.listed.listed_names.Goals.{in-Some+in_ok-push, in_default}
@@ -27,3 +29,27 @@ loop-number-preserved g c =
           ap (λ v. nodes_of v.items) w.names-is ∙ c.loop-number.invariant ∙ sym (append-nil _)
           ∙ sym (more names ks i c.loop-number-test.true None (slice_get_past names (slice_index_or ks i 0) w.in_default.ensures))
     ]
+
+pub returns-in_err-names-clause-names : goal.returns-in_err-names-clause-names
+returns-in_err-names-clause-names g c = IfOk-from_err _ _ c.from_residual.ensures.0
+
+pub returns-in_err-names-clause-refused : goal.returns-in_err-names-clause-refused
+returns-in_err-names-clause-refused g c = refused_by _ c.from_residual.result c.from_residual.ensures.1
+
+pub loop-number-init : goal.loop-number-init
+loop-number-init g c = ap nodes_of c.in_ok-names.ensures.items
+
+pub bounds-numbers-number-index : goal.bounds-numbers-number-index
+bounds-numbers-number-index g c = c.loop-number-test.true
+
+pub returns-in_err-push-clause-names : goal.returns-in_err-push-clause-names
+returns-in_err-push-clause-names g c = IfOk-from_err _ _ c.from_residual-in_err-push.ensures.0
+
+pub returns-in_err-push-clause-refused : goal.returns-in_err-push-clause-refused
+returns-in_err-push-clause-refused g c = refused_by _ c.from_residual-in_err-push.result c.from_residual-in_err-push.ensures.1
+
+pub loop-number-smaller : goal.loop-number-smaller
+loop-number-smaller g c = omega (arith, c.loop-number-test.true)
+
+pub returns-clause-names : goal.returns-clause-names
+returns-clause-names g c = c.loop-number.invariant ∙ ap (filter_map _) (take_all c.loop-number.number-index c.args.numbers.now c.loop-number-test.false)
