@@ -24,161 +24,91 @@ visited_stays old new n m h e k =
 visited_same : (old new : List Bool) → new ≡ old → (k : ℕ) → IsVisited new k ↔ IsVisited old k
 visited_same old new e k = (λ v. subst (λ xs. IsVisited xs k) e v, λ v. subst (λ xs. IsVisited xs k) (sym e) v)
 
-pub returns-then-found-gt-MOST_FOUND-clause-given : goal.returns-then-found-gt-MOST_FOUND-clause-given
-returns-then-found-gt-MOST_FOUND-clause-given g c = refl
+pub returns-then-found-gt-MOST_FOUND : goal.returns-then-found-gt-MOST_FOUND
+returns-then-found-gt-MOST_FOUND g c = record {
+  given = refl;
+  visited = visited_same c.args.self.now.visited.items c.args.self.now.visited.items refl;
+  path = refl;
+  waiting = refl;
+  row = refl;
+  few = tt;
+  wide = tt;
+  room = tt;
+  refused = refl;
+}
 
-pub returns-then-found-gt-MOST_FOUND-clause-path : goal.returns-then-found-gt-MOST_FOUND-clause-path
-returns-then-found-gt-MOST_FOUND-clause-path g c = refl
+pub returns-in_err-reserve : goal.returns-in_err-reserve
+returns-in_err-reserve g c = record {
+  given = refl;
+  visited = visited_same c.args.self.now.visited.items c.args.self.now.visited.items refl;
+  path = c.reserve.ensures.items;
+  waiting = refl;
+  row = refl;
+  few = on_failed _ c.from_residual.result c.from_residual.ensures.0;
+  wide = on_failed _ c.from_residual.result c.from_residual.ensures.0;
+  room = on_failed _ c.from_residual.result c.from_residual.ensures.0;
+  refused = refused_by _ c.from_residual.result c.from_residual.ensures.1;
+}
 
-pub returns-then-found-gt-MOST_FOUND-clause-waiting : goal.returns-then-found-gt-MOST_FOUND-clause-waiting
-returns-then-found-gt-MOST_FOUND-clause-waiting g c = refl
+pub returns-in_err-reserve-2 : goal.returns-in_err-reserve-2
+returns-in_err-reserve-2 g c = record {
+  given = refl;
+  visited = visited_same c.args.self.now.visited.items c.args.self.now.visited.items refl;
+  path = c.reserve.ensures.items;
+  waiting = c.reserve-2.ensures.items;
+  row = refl;
+  few = on_failed _ c.from_residual-in_err-reserve-2.result c.from_residual-in_err-reserve-2.ensures.0;
+  wide = on_failed _ c.from_residual-in_err-reserve-2.result c.from_residual-in_err-reserve-2.ensures.0;
+  room = on_failed _ c.from_residual-in_err-reserve-2.result c.from_residual-in_err-reserve-2.ensures.0;
+  refused = refused_by _ c.from_residual-in_err-reserve-2.result c.from_residual-in_err-reserve-2.ensures.1;
+}
 
-pub returns-then-found-gt-MOST_FOUND-clause-row : goal.returns-then-found-gt-MOST_FOUND-clause-row
-returns-then-found-gt-MOST_FOUND-clause-row g c = refl
-
-pub returns-then-found-gt-MOST_FOUND-clause-refused : goal.returns-then-found-gt-MOST_FOUND-clause-refused
-returns-then-found-gt-MOST_FOUND-clause-refused g c = refl
-
-pub returns-then-found-gt-MOST_FOUND-clause-visited : goal.returns-then-found-gt-MOST_FOUND-clause-visited
-returns-then-found-gt-MOST_FOUND-clause-visited g c = λ k. (λ h. h, λ h. h)
-
-pub returns-in_err-reserve-clause-given : goal.returns-in_err-reserve-clause-given
-returns-in_err-reserve-clause-given g c = refl
-
-pub returns-in_err-reserve-clause-path : goal.returns-in_err-reserve-clause-path
-returns-in_err-reserve-clause-path g c = c.reserve.ensures.items
-
-pub returns-in_err-reserve-clause-waiting : goal.returns-in_err-reserve-clause-waiting
-returns-in_err-reserve-clause-waiting g c = refl
-
-pub returns-in_err-reserve-clause-row : goal.returns-in_err-reserve-clause-row
-returns-in_err-reserve-clause-row g c = refl
-
-pub returns-in_err-reserve-clause-visited : goal.returns-in_err-reserve-clause-visited
-returns-in_err-reserve-clause-visited g c = λ k. (λ h. h, λ h. h)
-
-pub returns-in_err-reserve-clause-few : goal.returns-in_err-reserve-clause-few
-returns-in_err-reserve-clause-few g c = on_failed _ c.from_residual.result c.from_residual.ensures.0
-
-pub returns-in_err-reserve-clause-wide : goal.returns-in_err-reserve-clause-wide
-returns-in_err-reserve-clause-wide g c = on_failed _ c.from_residual.result c.from_residual.ensures.0
-
-pub returns-in_err-reserve-clause-room : goal.returns-in_err-reserve-clause-room
-returns-in_err-reserve-clause-room g c = on_failed _ c.from_residual.result c.from_residual.ensures.0
-
-pub returns-in_err-reserve-clause-refused : goal.returns-in_err-reserve-clause-refused
-returns-in_err-reserve-clause-refused g c = refused_by _ c.from_residual.result c.from_residual.ensures.1
-
-pub returns-in_err-reserve-2-clause-given : goal.returns-in_err-reserve-2-clause-given
-returns-in_err-reserve-2-clause-given g c = refl
-
-pub returns-in_err-reserve-2-clause-path : goal.returns-in_err-reserve-2-clause-path
-returns-in_err-reserve-2-clause-path g c = c.reserve.ensures.items
-
-pub returns-in_err-reserve-2-clause-waiting : goal.returns-in_err-reserve-2-clause-waiting
-returns-in_err-reserve-2-clause-waiting g c = c.reserve-2.ensures.items
-
-pub returns-in_err-reserve-2-clause-row : goal.returns-in_err-reserve-2-clause-row
-returns-in_err-reserve-2-clause-row g c = refl
-
-pub returns-in_err-reserve-2-clause-visited : goal.returns-in_err-reserve-2-clause-visited
-returns-in_err-reserve-2-clause-visited g c = λ k. (λ h. h, λ h. h)
-
-pub returns-in_err-reserve-2-clause-few : goal.returns-in_err-reserve-2-clause-few
-returns-in_err-reserve-2-clause-few g c = on_failed _ c.from_residual-in_err-reserve-2.result c.from_residual-in_err-reserve-2.ensures.0
-
-pub returns-in_err-reserve-2-clause-wide : goal.returns-in_err-reserve-2-clause-wide
-returns-in_err-reserve-2-clause-wide g c = on_failed _ c.from_residual-in_err-reserve-2.result c.from_residual-in_err-reserve-2.ensures.0
-
-pub returns-in_err-reserve-2-clause-room : goal.returns-in_err-reserve-2-clause-room
-returns-in_err-reserve-2-clause-room g c = on_failed _ c.from_residual-in_err-reserve-2.result c.from_residual-in_err-reserve-2.ensures.0
-
-pub returns-in_err-reserve-2-clause-refused : goal.returns-in_err-reserve-2-clause-refused
-returns-in_err-reserve-2-clause-refused g c = refused_by _ c.from_residual-in_err-reserve-2.result c.from_residual-in_err-reserve-2.ensures.1
-
-pub returns-in_err-resize-clause-given : goal.returns-in_err-resize-clause-given
-returns-in_err-resize-clause-given g c = refl
-
-pub returns-in_err-resize-clause-path : goal.returns-in_err-resize-clause-path
-returns-in_err-resize-clause-path g c = c.reserve.ensures.items
-
-pub returns-in_err-resize-clause-waiting : goal.returns-in_err-resize-clause-waiting
-returns-in_err-resize-clause-waiting g c = c.reserve-2.ensures.items
-
-pub returns-in_err-resize-clause-row : goal.returns-in_err-resize-clause-row
-returns-in_err-resize-clause-row g c = refl
-
-pub returns-in_err-resize-clause-visited : goal.returns-in_err-resize-clause-visited
-returns-in_err-resize-clause-visited g c = visited_same c.args.self.now.visited.items c.resize.new.self.items c.in_err-resize.ensures.items
-
-pub returns-in_err-resize-clause-few : goal.returns-in_err-resize-clause-few
-returns-in_err-resize-clause-few g c = on_failed _ c.from_residual-in_err-resize.result c.from_residual-in_err-resize.ensures.0
-
-pub returns-in_err-resize-clause-wide : goal.returns-in_err-resize-clause-wide
-returns-in_err-resize-clause-wide g c = on_failed _ c.from_residual-in_err-resize.result c.from_residual-in_err-resize.ensures.0
-
-pub returns-in_err-resize-clause-room : goal.returns-in_err-resize-clause-room
-returns-in_err-resize-clause-room g c = on_failed _ c.from_residual-in_err-resize.result c.from_residual-in_err-resize.ensures.0
-
-pub returns-in_err-resize-clause-refused : goal.returns-in_err-resize-clause-refused
-returns-in_err-resize-clause-refused g c = refused_by _ c.from_residual-in_err-resize.result c.from_residual-in_err-resize.ensures.1
+pub returns-in_err-resize : goal.returns-in_err-resize
+returns-in_err-resize g c = record {
+  given = refl;
+  visited = visited_same c.args.self.now.visited.items c.resize.new.self.items c.in_err-resize.ensures.items;
+  path = c.reserve.ensures.items;
+  waiting = c.reserve-2.ensures.items;
+  row = refl;
+  few = on_failed _ c.from_residual-in_err-resize.result c.from_residual-in_err-resize.ensures.0;
+  wide = on_failed _ c.from_residual-in_err-resize.result c.from_residual-in_err-resize.ensures.0;
+  room = on_failed _ c.from_residual-in_err-resize.result c.from_residual-in_err-resize.ensures.0;
+  refused = refused_by _ c.from_residual-in_err-resize.result c.from_residual-in_err-resize.ensures.1;
+}
 
 pub overflow_add-number : goal.overflow_add-number
 overflow_add-number g c = omega (arith, c.requires, c.ranges.found)
 
-pub returns-in_ok-resize-clause-given : goal.returns-in_ok-resize-clause-given
-returns-in_ok-resize-clause-given g c = refl
+pub returns-in_ok-resize : goal.returns-in_ok-resize
+returns-in_ok-resize g c = record {
+  given = refl;
+  visited = visited_stays c.args.self.now.visited.items c.resize.new.self.items (c.args.number + 1) _ (omega (arith, c.if-len-number.true, c.len-3.ensures, c.args.self.now.visited.ok)) c.in_ok-resize.ensures.items;
+  path = c.reserve.ensures.items;
+  waiting = c.reserve-2.ensures.items;
+  row = refl;
+  few = omega (arith, c.if-found-gt-MOST_FOUND.false);
+  wide = omega (arith, c.in_ok-resize.ensures.len, c.resize.new.self.ok);
+  room = (
+    omega (arith, c.if-len-ge-MOST_GIVEN.false, c.len.ensures.len),
+    omega (arith, c.in_ok-reserve.ensures.ok, c.reserve.new.self.ok),
+    omega (arith, c.in_ok-reserve-2.ensures.ok, c.reserve-2.new.self.ok, c.len-2.ensures, c.args.self.now.row.ok),
+  );
+  refused = tt;
+}
 
-pub returns-in_ok-resize-clause-path : goal.returns-in_ok-resize-clause-path
-returns-in_ok-resize-clause-path g c = c.reserve.ensures.items
-
-pub returns-in_ok-resize-clause-waiting : goal.returns-in_ok-resize-clause-waiting
-returns-in_ok-resize-clause-waiting g c = c.reserve-2.ensures.items
-
-pub returns-in_ok-resize-clause-row : goal.returns-in_ok-resize-clause-row
-returns-in_ok-resize-clause-row g c = refl
-
-pub returns-in_ok-resize-clause-few : goal.returns-in_ok-resize-clause-few
-returns-in_ok-resize-clause-few g c = omega (arith, c.if-found-gt-MOST_FOUND.false)
-
-pub returns-in_ok-resize-clause-room : goal.returns-in_ok-resize-clause-room
-returns-in_ok-resize-clause-room g c = (
-  omega (arith, c.if-len-ge-MOST_GIVEN.false, c.len.ensures.len),
-  omega (arith, c.in_ok-reserve.ensures.ok, c.reserve.new.self.ok),
-  omega (arith, c.in_ok-reserve-2.ensures.ok, c.reserve-2.new.self.ok, c.len-2.ensures, c.args.self.now.row.ok),
-)
-
-pub returns-else-len-number-clause-given : goal.returns-else-len-number-clause-given
-returns-else-len-number-clause-given g c = refl
-
-pub returns-else-len-number-clause-path : goal.returns-else-len-number-clause-path
-returns-else-len-number-clause-path g c = c.reserve.ensures.items
-
-pub returns-else-len-number-clause-waiting : goal.returns-else-len-number-clause-waiting
-returns-else-len-number-clause-waiting g c = c.reserve-2.ensures.items
-
-pub returns-else-len-number-clause-row : goal.returns-else-len-number-clause-row
-returns-else-len-number-clause-row g c = refl
-
-pub returns-else-len-number-clause-few : goal.returns-else-len-number-clause-few
-returns-else-len-number-clause-few g c = omega (arith, c.if-found-gt-MOST_FOUND.false)
-
-pub returns-else-len-number-clause-room : goal.returns-else-len-number-clause-room
-returns-else-len-number-clause-room g c = (
-  omega (arith, c.if-len-ge-MOST_GIVEN.false, c.len.ensures.len),
-  omega (arith, c.in_ok-reserve.ensures.ok, c.reserve.new.self.ok),
-  omega (arith, c.in_ok-reserve-2.ensures.ok, c.reserve-2.new.self.ok, c.len-2.ensures, c.args.self.now.row.ok),
-)
-
-pub returns-in_ok-resize-clause-wide : goal.returns-in_ok-resize-clause-wide
-returns-in_ok-resize-clause-wide g c = omega (arith, c.in_ok-resize.ensures.len, c.resize.new.self.ok)
-
-pub returns-in_ok-resize-clause-visited : goal.returns-in_ok-resize-clause-visited
-returns-in_ok-resize-clause-visited g c =
-    visited_stays c.args.self.now.visited.items c.resize.new.self.items (c.args.number + 1) _ (omega (arith, c.if-len-number.true, c.len-3.ensures, c.args.self.now.visited.ok)) c.in_ok-resize.ensures.items
-
-pub returns-else-len-number-clause-visited : goal.returns-else-len-number-clause-visited
-returns-else-len-number-clause-visited g c = λ k. (λ h. h, λ h. h)
-
-pub returns-else-len-number-clause-wide : goal.returns-else-len-number-clause-wide
-returns-else-len-number-clause-wide g c = omega (arith, c.if-len-number.false, c.len-3.ensures, c.args.self.now.visited.ok)
+pub returns-else-len-number : goal.returns-else-len-number
+returns-else-len-number g c = record {
+  given = refl;
+  visited = visited_same c.args.self.now.visited.items c.args.self.now.visited.items refl;
+  path = c.reserve.ensures.items;
+  waiting = c.reserve-2.ensures.items;
+  row = refl;
+  few = omega (arith, c.if-found-gt-MOST_FOUND.false);
+  wide = omega (arith, c.if-len-number.false, c.len-3.ensures, c.args.self.now.visited.ok);
+  room = (
+    omega (arith, c.if-len-ge-MOST_GIVEN.false, c.len.ensures.len),
+    omega (arith, c.in_ok-reserve.ensures.ok, c.reserve.new.self.ok),
+    omega (arith, c.in_ok-reserve-2.ensures.ok, c.reserve-2.new.self.ok, c.len-2.ensures, c.args.self.now.row.ok),
+  );
+  refused = tt;
+}

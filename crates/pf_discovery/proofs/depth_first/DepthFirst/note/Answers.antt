@@ -20,38 +20,8 @@ put_branches-requires-clause-ends g c = λ k h.
     let inside : k < c.args.found = c.requires.ends k (subst (λ (ns : List ℕ). Contains ns k) c.make_room.ensures.row h) in
     omega (arith, inside, c.in_ok-make_room.ensures.few)
 
-pub returns-clause-visited : goal.returns-clause-visited
-returns-clause-visited g c = visited_more _ _ c.args.branch.number c.in_ok-make_room.ensures.wide c.make_room.ensures.visited
-
-pub returns-in_default-clause-kept : goal.returns-in_default-clause-kept
-returns-in_default-clause-kept g c = (refl, refl, refl, λ k. (λ h. h, λ h. h))
-
-pub returns-in_default-clause-refused : goal.returns-in_default-clause-refused
-returns-in_default-clause-refused g c = refl
-
 pub make_room-requires : goal.make_room-requires
 make_room-requires g c = c.requires.inside
-
-pub returns-in_err-make_room-clause-given : goal.returns-in_err-make_room-clause-given
-returns-in_err-make_room-clause-given g c = on_failed _ c.from_residual.result c.from_residual.ensures.0
-
-pub returns-in_err-make_room-clause-few : goal.returns-in_err-make_room-clause-few
-returns-in_err-make_room-clause-few g c = on_failed _ c.from_residual.result c.from_residual.ensures.0
-
-pub returns-in_err-make_room-clause-visited : goal.returns-in_err-make_room-clause-visited
-returns-in_err-make_room-clause-visited g c = on_failed _ c.from_residual.result c.from_residual.ensures.0
-
-pub returns-in_err-make_room-clause-path : goal.returns-in_err-make_room-clause-path
-returns-in_err-make_room-clause-path g c = on_failed _ c.from_residual.result c.from_residual.ensures.0
-
-pub returns-in_err-make_room-clause-waiting : goal.returns-in_err-make_room-clause-waiting
-returns-in_err-make_room-clause-waiting g c = on_failed _ c.from_residual.result c.from_residual.ensures.0
-
-pub returns-in_err-make_room-clause-kept : goal.returns-in_err-make_room-clause-kept
-returns-in_err-make_room-clause-kept g c = on_err c.from_residual.result (c.make_room.ensures.given, c.make_room.ensures.path, c.make_room.ensures.waiting, c.make_room.ensures.visited)
-
-pub returns-in_err-make_room-clause-refused : goal.returns-in_err-make_room-clause-refused
-returns-in_err-make_room-clause-refused g c = refused_as _ c.from_residual.result _ c.from_residual.ensures.1 c.in_err-make_room.ensures.refused
 
 pub index_mut-requires : goal.index_mut-requires
 index_mut-requires g c = omega (arith, c.in_ok-make_room.ensures.wide, c.make_room.new.self.visited.ok)
@@ -65,18 +35,31 @@ push_reserved-requires g c = omega (arith, c.truncate.ensures.len, c.truncate.en
 pub push-requires : goal.push-requires
 push-requires g c = c.in_ok-make_room.ensures.room.0
 
-pub returns-clause-given : goal.returns-clause-given
-returns-clause-given g c = c.push.ensures ∙ ap (λ (xs : List ℕ). xs ++ c.args.branch.number ∷ []) c.make_room.ensures.given
+pub returns-in_default : goal.returns-in_default
+returns-in_default g c = record { given = tt; few = tt; visited = tt; path = tt; waiting = tt; kept = (refl, refl, refl, λ k. (λ h. h, λ h. h)); refused = refl }
 
-pub returns-clause-few : goal.returns-clause-few
-returns-clause-few g c = omega (arith, ap length c.push.ensures, length_push c.make_room.new.self.given c.args.branch.number, c.in_ok-make_room.ensures.room.0)
+pub returns-in_err-make_room : goal.returns-in_err-make_room
+returns-in_err-make_room g c = record {
+  given = on_failed _ c.from_residual.result c.from_residual.ensures.0;
+  few = on_failed _ c.from_residual.result c.from_residual.ensures.0;
+  visited = on_failed _ c.from_residual.result c.from_residual.ensures.0;
+  path = on_failed _ c.from_residual.result c.from_residual.ensures.0;
+  waiting = on_failed _ c.from_residual.result c.from_residual.ensures.0;
+  kept = on_err c.from_residual.result (c.make_room.ensures.given, c.make_room.ensures.path, c.make_room.ensures.waiting, c.make_room.ensures.visited);
+  refused = refused_as _ c.from_residual.result _ c.from_residual.ensures.1 c.in_err-make_room.ensures.refused;
+}
 
-pub returns-clause-path : goal.returns-clause-path
-returns-clause-path g c = c.push_reserved.ensures.items ∙ ap (λ (xs : List ℕ). xs ++ c.args.branch.number ∷ []) (c.truncate.ensures.items ∙ ap (take c.args.branch.depth) c.make_room.ensures.path)
-
-pub returns-clause-waiting : goal.returns-clause-waiting
-returns-clause-waiting g c =
-    let path = c.truncate.new.self.items in
-    let cut : length path ≡ c.args.branch.depth = omega (arith, ap length c.truncate.ensures.items, length-take c.args.branch.depth c.make_room.new.self.path.items, ap length c.make_room.ensures.path, c.requires.depth) in
-    let deep : c.in-Some.depth ≡ length c.push_reserved.new.self.items = omega (arith, ap length c.push_reserved.ensures.items, length_push path c.args.branch.number, cut, c.in-Some.ensures) in
-    waits c.put_branches.new.waiting.items c.make_room.new.self.waiting.items c.args.self.now.waiting.items _ _ _ _ _ _ c.put_branches.ensures.put c.make_room.ensures.waiting deep c.deref.ensures.value c.make_room.ensures.row
+pub returns : goal.returns
+returns g c = record {
+  given = c.push.ensures ∙ ap (λ (xs : List ℕ). xs ++ c.args.branch.number ∷ []) c.make_room.ensures.given;
+  few = omega (arith, ap length c.push.ensures, length_push c.make_room.new.self.given c.args.branch.number, c.in_ok-make_room.ensures.room.0);
+  visited = visited_more _ _ c.args.branch.number c.in_ok-make_room.ensures.wide c.make_room.ensures.visited;
+  path = c.push_reserved.ensures.items ∙ ap (λ (xs : List ℕ). xs ++ c.args.branch.number ∷ []) (c.truncate.ensures.items ∙ ap (take c.args.branch.depth) c.make_room.ensures.path);
+  waiting =
+      let path = c.truncate.new.self.items in
+      let cut : length path ≡ c.args.branch.depth = omega (arith, ap length c.truncate.ensures.items, length-take c.args.branch.depth c.make_room.new.self.path.items, ap length c.make_room.ensures.path, c.requires.depth) in
+      let deep : c.in-Some.depth ≡ length c.push_reserved.new.self.items = omega (arith, ap length c.push_reserved.ensures.items, length_push path c.args.branch.number, cut, c.in-Some.ensures) in
+      waits c.put_branches.new.waiting.items c.make_room.new.self.waiting.items c.args.self.now.waiting.items _ _ _ _ _ _ c.put_branches.ensures.put c.make_room.ensures.waiting deep c.deref.ensures.value c.make_room.ensures.row;
+  kept = tt;
+  refused = tt;
+}
