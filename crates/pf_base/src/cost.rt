@@ -34,8 +34,9 @@ pub trait Cost: Copy + Ord + Zero + CheckedAdd {
     fn known(self)
         ensures { Self.fits (Self.value self) };
 
-    /// The difference of two costs, or `None` where it does not fit or the type does not find it. An
-    /// own type may leave this method out; `yen` then searches its classes without it.
+    /// The difference of two costs, or `None` where it does not fit or the type does not find it. The
+    /// integers of std find each one that fits (`exact`). An own type may leave this method out; `yen`
+    /// then searches its classes without it.
     fn difference(self, other: Self) -> Option<Self>
         ensures { IfSome result (λ cost. Self.value cost +ℤ Self.value other ≡ Self.value self) }
     {

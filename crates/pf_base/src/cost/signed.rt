@@ -1,6 +1,7 @@
 //! The signed integers of std as costs.
 
-ghost use Rattle.std.specs.Prelude.{◌-◌, ◌^◌, pos, negsuc};
+ghost use Rattle.std.specs.Prelude.{◌-◌, ◌-ℤ◌, ◌^◌, pos, negsuc, FitsSigned};
+ghost use Rattle.std.specs.Option.{SomeIff};
 ghost use Rattle.std.specs.Int.{w8, w16, w32, w64, w128};
 ghost use Rattle.num_traits.specs.Ints.{signed-bounds};
 ghost use Rattle.pf_base.specs.Costs.{signed-negation_fits};
@@ -22,7 +23,9 @@ impl Cost for i8 {
 
     fn known(self) {}
 
-    fn difference(self, other: i8) -> Option<i8> {
+    fn difference(self, other: i8) -> Option<i8>
+        ensures exact { SomeIff result (FitsSigned w8 (self -ℤ other)) (self -ℤ other) }
+    {
         self.checked_sub(other)
     }
 
@@ -56,7 +59,9 @@ impl Cost for i16 {
 
     fn known(self) {}
 
-    fn difference(self, other: i16) -> Option<i16> {
+    fn difference(self, other: i16) -> Option<i16>
+        ensures exact { SomeIff result (FitsSigned w16 (self -ℤ other)) (self -ℤ other) }
+    {
         self.checked_sub(other)
     }
 
@@ -90,7 +95,9 @@ impl Cost for i32 {
 
     fn known(self) {}
 
-    fn difference(self, other: i32) -> Option<i32> {
+    fn difference(self, other: i32) -> Option<i32>
+        ensures exact { SomeIff result (FitsSigned w32 (self -ℤ other)) (self -ℤ other) }
+    {
         self.checked_sub(other)
     }
 
@@ -124,7 +131,9 @@ impl Cost for i64 {
 
     fn known(self) {}
 
-    fn difference(self, other: i64) -> Option<i64> {
+    fn difference(self, other: i64) -> Option<i64>
+        ensures exact { SomeIff result (FitsSigned w64 (self -ℤ other)) (self -ℤ other) }
+    {
         self.checked_sub(other)
     }
 
@@ -158,7 +167,9 @@ impl Cost for i128 {
 
     fn known(self) {}
 
-    fn difference(self, other: i128) -> Option<i128> {
+    fn difference(self, other: i128) -> Option<i128>
+        ensures exact { SomeIff result (FitsSigned w128 (self -ℤ other)) (self -ℤ other) }
+    {
         self.checked_sub(other)
     }
 
@@ -192,7 +203,9 @@ impl Cost for isize {
 
     fn known(self) {}
 
-    fn difference(self, other: isize) -> Option<isize> {
+    fn difference(self, other: isize) -> Option<isize>
+        ensures exact { SomeIff result (FitsSigned w64 (self -ℤ other)) (self -ℤ other) }
+    {
         self.checked_sub(other)
     }
 

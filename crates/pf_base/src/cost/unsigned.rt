@@ -1,6 +1,7 @@
 //! The unsigned integers of std as costs.
 
-ghost use Rattle.std.specs.Prelude.{◌-◌, ◌^◌};
+ghost use Rattle.std.specs.Prelude.{◌-◌, ◌≤◌, ◌^◌};
+ghost use Rattle.std.specs.Option.{SomeIff};
 ghost use Rattle.num_traits.specs.Ints.{unsigned-bounds};
 
 use crate::cost::Cost;
@@ -20,7 +21,9 @@ impl Cost for u8 {
 
     fn known(self) {}
 
-    fn difference(self, other: u8) -> Option<u8> {
+    fn difference(self, other: u8) -> Option<u8>
+        ensures exact { SomeIff result (other ≤ self) (self - other) }
+    {
         self.checked_sub(other)
     }
 
@@ -42,7 +45,9 @@ impl Cost for u16 {
 
     fn known(self) {}
 
-    fn difference(self, other: u16) -> Option<u16> {
+    fn difference(self, other: u16) -> Option<u16>
+        ensures exact { SomeIff result (other ≤ self) (self - other) }
+    {
         self.checked_sub(other)
     }
 
@@ -64,7 +69,9 @@ impl Cost for u32 {
 
     fn known(self) {}
 
-    fn difference(self, other: u32) -> Option<u32> {
+    fn difference(self, other: u32) -> Option<u32>
+        ensures exact { SomeIff result (other ≤ self) (self - other) }
+    {
         self.checked_sub(other)
     }
 
@@ -86,7 +93,9 @@ impl Cost for u64 {
 
     fn known(self) {}
 
-    fn difference(self, other: u64) -> Option<u64> {
+    fn difference(self, other: u64) -> Option<u64>
+        ensures exact { SomeIff result (other ≤ self) (self - other) }
+    {
         self.checked_sub(other)
     }
 
@@ -108,7 +117,9 @@ impl Cost for u128 {
 
     fn known(self) {}
 
-    fn difference(self, other: u128) -> Option<u128> {
+    fn difference(self, other: u128) -> Option<u128>
+        ensures exact { SomeIff result (other ≤ self) (self - other) }
+    {
         self.checked_sub(other)
     }
 
@@ -130,7 +141,9 @@ impl Cost for usize {
 
     fn known(self) {}
 
-    fn difference(self, other: usize) -> Option<usize> {
+    fn difference(self, other: usize) -> Option<usize>
+        ensures exact { SomeIff result (other ≤ self) (self - other) }
+    {
         self.checked_sub(other)
     }
 
