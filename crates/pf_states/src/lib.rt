@@ -1,6 +1,6 @@
 //! Searches over states: a graph of one's own over any copied node type, told place by place.
 //!
-//! A caller writes what the places of a state lead to as a list in its `specs/`, and proves nothing.
+//! A caller writes what the places of a state lead to as a list, and proves nothing.
 #![tactic(auto)]
 
 mod cheapest;
