@@ -26,7 +26,7 @@ impl Cost for i8 {
     fn difference(self, other: i8) -> Option<i8>
         ensures exact { SomeIff result (FitsSigned w8 (self -ℤ other)) (self -ℤ other) }
     {
-        self.checked_sub(other)
+        i8::checked_sub(self, other)
     }
 
     ghost range_law = { signed-bounds w8 };
@@ -62,7 +62,7 @@ impl Cost for i16 {
     fn difference(self, other: i16) -> Option<i16>
         ensures exact { SomeIff result (FitsSigned w16 (self -ℤ other)) (self -ℤ other) }
     {
-        self.checked_sub(other)
+        i16::checked_sub(self, other)
     }
 
     ghost range_law = { signed-bounds w16 };
@@ -98,7 +98,7 @@ impl Cost for i32 {
     fn difference(self, other: i32) -> Option<i32>
         ensures exact { SomeIff result (FitsSigned w32 (self -ℤ other)) (self -ℤ other) }
     {
-        self.checked_sub(other)
+        i32::checked_sub(self, other)
     }
 
     ghost range_law = { signed-bounds w32 };
@@ -134,7 +134,7 @@ impl Cost for i64 {
     fn difference(self, other: i64) -> Option<i64>
         ensures exact { SomeIff result (FitsSigned w64 (self -ℤ other)) (self -ℤ other) }
     {
-        self.checked_sub(other)
+        i64::checked_sub(self, other)
     }
 
     ghost range_law = { signed-bounds w64 };
@@ -170,7 +170,7 @@ impl Cost for i128 {
     fn difference(self, other: i128) -> Option<i128>
         ensures exact { SomeIff result (FitsSigned w128 (self -ℤ other)) (self -ℤ other) }
     {
-        self.checked_sub(other)
+        i128::checked_sub(self, other)
     }
 
     ghost range_law = { signed-bounds w128 };
@@ -206,7 +206,7 @@ impl Cost for isize {
     fn difference(self, other: isize) -> Option<isize>
         ensures exact { SomeIff result (FitsSigned w64 (self -ℤ other)) (self -ℤ other) }
     {
-        self.checked_sub(other)
+        isize::checked_sub(self, other)
     }
 
     ghost range_law = { signed-bounds w64 };

@@ -24,7 +24,7 @@ impl Cost for u8 {
     fn difference(self, other: u8) -> Option<u8>
         ensures exact { SomeIff result (other ≤ self) (self - other) }
     {
-        self.checked_sub(other)
+        u8::checked_sub(self, other)
     }
 
     ghost range_law = { unsigned-bounds 8 };
@@ -48,7 +48,7 @@ impl Cost for u16 {
     fn difference(self, other: u16) -> Option<u16>
         ensures exact { SomeIff result (other ≤ self) (self - other) }
     {
-        self.checked_sub(other)
+        u16::checked_sub(self, other)
     }
 
     ghost range_law = { unsigned-bounds 16 };
@@ -72,7 +72,7 @@ impl Cost for u32 {
     fn difference(self, other: u32) -> Option<u32>
         ensures exact { SomeIff result (other ≤ self) (self - other) }
     {
-        self.checked_sub(other)
+        u32::checked_sub(self, other)
     }
 
     ghost range_law = { unsigned-bounds 32 };
@@ -96,7 +96,7 @@ impl Cost for u64 {
     fn difference(self, other: u64) -> Option<u64>
         ensures exact { SomeIff result (other ≤ self) (self - other) }
     {
-        self.checked_sub(other)
+        u64::checked_sub(self, other)
     }
 
     ghost range_law = { unsigned-bounds 64 };
@@ -120,7 +120,7 @@ impl Cost for u128 {
     fn difference(self, other: u128) -> Option<u128>
         ensures exact { SomeIff result (other ≤ self) (self - other) }
     {
-        self.checked_sub(other)
+        u128::checked_sub(self, other)
     }
 
     ghost range_law = { unsigned-bounds 128 };
@@ -144,7 +144,7 @@ impl Cost for usize {
     fn difference(self, other: usize) -> Option<usize>
         ensures exact { SomeIff result (other ≤ self) (self - other) }
     {
-        self.checked_sub(other)
+        usize::checked_sub(self, other)
     }
 
     ghost range_law = { unsigned-bounds 64 };
